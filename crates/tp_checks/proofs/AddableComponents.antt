@@ -1,24 +1,17 @@
 -- What can be added to a configuration, and what the rules on component variables say of each.
 use Rattle.std.proofs.Common.{◌≡◌, ◌≤◌, ℕ, ◌+◌, inl, inr, Option, Some, option_map, codes, List, [], ◌∷◌, ◌++◌, All, Contains, length, map, refl, sym, ap, ◌∙◌, subst, arith, append_assoc}
-use Rattle.std.specs.Option.{option_to_list}
-use Rattle.tp_tree.specs.declared.tree.TestCase.{TestCase}
-use Rattle.tp_config.specs.declared.port_type.Role.TheVariants as role
 use Rattle.std.proofs.lemmas.List.{get_or_at, length-append, length-map, map-append}
+use Rattle.std.specs.Option.{option_to_list}
+use Rattle.tp_tree.specs.declared.tree.{TestCase.TestCase, Creation.Creation}
+use Rattle.tp_config.specs.declared.port_type.Role.TheVariants as role
 use Rattle.tp_checks.specs.declared.fault.ModuleFault.{ModuleFault}
-use Rattle.tp_tree.specs.declared.tree.Creation.{Creation}
 use Rattle.tp_config.specs.declared.creating.CreateFault.{CreateFault}
 use Rattle.tp_config.specs.declared.creating.CreateFault.TheVariants as create_fault
-use Rattle.tp_config.specs.Setup.{Setup, Member, names_of_components}
-use Rattle.tp_config.specs.Shape.{member}
+use Rattle.tp_config.specs.{Setup.Setup, Setup.Member, Setup.names_of_components, Shape.member, Faults.create_refusal}
 use Rattle.tp_config.specs.Causes.{CanCreate, CreateRefused, IsTaken}
-use Rattle.tp_config.specs.Faults.{create_refusal}
-use Rattle.tp_checks.specs.Refused.{IsRefusedBy}
-use Rattle.tp_checks.specs.Tables.{AreDistinct}
-use Rattle.tp_checks.specs.Told.{fault_refusal}
-use Rattle.tp_checks.proofs.MemoryRefusals.{told_memory}
+use Rattle.tp_checks.specs.{Refused.IsRefusedBy, Tables.AreDistinct, Told.fault_refusal}
 use Rattle.tp_checks.specs.Components.{AddsAll, CanAdd, CanAddAll, Declared, HasSoundVariables, IsSoundVariable, created, interface, variable_name}
-use Rattle.tp_checks.proofs.DistinctNamesInParts.{distinct_first}
-use Rattle.tp_checks.proofs.UniqueZipsAndPlaces.{not_before}
+use Rattle.tp_checks.proofs.{MemoryRefusals.told_memory, DistinctNamesInParts.distinct_first, UniqueZipsAndPlaces.not_before}
 
 -- a component that can be added can be created
 can_create : (types : List (List ℕ)) (x : Declared) (s : Setup) (kind : ℕ) → CanAdd types x s → CanCreate s (member x.name kind x.role)

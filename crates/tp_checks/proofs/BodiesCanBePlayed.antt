@@ -1,56 +1,33 @@
 -- What stands for a text can be played: each place was looked up, and what is sent and wanted was checked.
-use Rattle.std.proofs.Common.{ℕ, ◌<◌, List, ◌++◌, Option, length, refl, sym, subst, arith, string_bytes}
-use Rattle.std.proofs.lemmas.List.{length_push, length-append, length-map}
-use Rattle.std.proofs.lemmas.Option.{slice_get_within}
+use Rattle.std.proofs.Common.{ℕ, ◌<◌, List, ◌++◌, Option, length, refl, sym, subst, arith}
+use Rattle.std.proofs.{lemmas.List.length_push, lemmas.List.length-append, lemmas.Option.slice_get_within}
 use Rattle.tp_value.specs.declared.types.Ty.{Ty}
 use Rattle.tp_value.proofs.HasTypeEquations.{has_int}
 use Rattle.tp_config.specs.declared.port_type.PortType.{PortType}
-use Rattle.tp_tree.specs.declared.tree.ComponentName.{ComponentName}
-use Rattle.tp_tree.specs.declared.tree.SentExpression.{SentExpression}
-use Rattle.tp_tree.specs.declared.tree.Send.{Send}
-use Rattle.tp_tree.specs.declared.tree.Receive.{Receive}
-use Rattle.tp_tree.specs.declared.tree.Receivers.{Receivers}
+use Rattle.tp_tree.specs.declared.tree.{ComponentName.ComponentName, SentExpression.SentExpression, Send.Send, Receive.Receive}
+use Rattle.tp_tree.specs.declared.tree.{Receivers.Receivers, Variable.Variable, Statement.Statement as StatementText, Action.Action}
+use Rattle.tp_tree.specs.declared.tree.{Branch.Branch as BranchText, BranchBody.BranchBody, Counted.out-Counted}
 use Rattle.tp_tree.specs.declared.message.MessageTemplate.{MessageTemplate}
-use Rattle.tp_tree.specs.declared.tree.Variable.{Variable}
-use Rattle.tp_tree.specs.declared.tree.Statement.{Statement as StatementText}
-use Rattle.tp_tree.specs.declared.tree.Action.{Action}
-use Rattle.tp_tree.specs.declared.tree.Branch.{Branch as BranchText}
-use Rattle.tp_tree.specs.declared.tree.BranchBody.{BranchBody}
-use Rattle.tp_tree.specs.declared.tree.Counted.{out-Counted}
-use Rattle.tp_play.specs.declared.body.RecvMsg.{RecvMsg}
-use Rattle.tp_play.specs.declared.body.Sent.{Sent}
-use Rattle.tp_play.specs.declared.body.Receiver.{Receiver}
-use Rattle.tp_play.specs.declared.body.SendOperation.{SendOperation}
-use Rattle.tp_play.specs.declared.body.Receiving.{Receiving}
-use Rattle.tp_play.specs.declared.body.ResolvedStatement.{ResolvedStatement}
-use Rattle.tp_play.specs.declared.body.ResolvedBranch.{ResolvedBranch}
-use Rattle.tp_play.specs.declared.body.Body.{Body}
-use Rattle.tp_checks.specs.declared.scope.Scope.{Scope}
+use Rattle.tp_play.specs.declared.body.{RecvMsg.RecvMsg, Sent.Sent, Receiver.Receiver, SendOperation.SendOperation, Receiving.Receiving}
+use Rattle.tp_play.specs.declared.body.{ResolvedStatement.ResolvedStatement, ResolvedBranch.ResolvedBranch, Body.Body}
 use Rattle.tp_checks.specs.declared.scope.Variables.{Variables}
 use Rattle.tp_checks.specs.Scoping as n
-use Rattle.tp_checks.specs.Scoping.{IsPortNamed, IsReference, declared_port_names}
-use Rattle.tp_checks.specs.Bodies as b
+use Rattle.tp_checks.specs.Scoping.{IsPortNamed, IsReference, Visible, reference_count}
 use Rattle.tp_checks.specs.Bodies.{IsSent, IsReceiver, IsSend, IsWanted, IsFrom, IsValueTarget, IsSenderTarget, IsReceive, IsStatement, IsBlock, IsBranch, IsAfter, AreBranches, IsBody}
-use Rattle.tp_checks.specs.Scoping.{reference_count}
+use Rattle.tp_checks.specs.Bodies as b
 use Rattle.tp_play.specs.Playable.{Stage, IsAlwaysFitting, CanSay, CanAddress, CanSend, CanWant, CanExpect, CanKeepValue, CanKeepSender, CanReceive, CanPlay, CanEnter, CanPlayAll, CanEnterAll, IsPlayable}
 use Rattle.tp_play.proofs.FilledValueEquations.{needed_turn, filled_turn}
-use Rattle.tp_checks.proofs.LoopVariablesInScope.{value_closed, wanted_closed}
-use Rattle.tp_checks.proofs.FilledValuesHaveType.{fits_64_bits, typed}
-use Rattle.tp_checks.proofs.FilledTemplatesFit.{fitting}
 use Rattle.tp_play.proofs.PlayableStatementEquations.{play_send, play_receive, play_control, play_all_ports, play_set_verdict, play_alt, play_alt_else, play_for, enter_branch, Each-push}
+use Rattle.tp_checks.proofs.{LoopVariablesInScope.value_closed, LoopVariablesInScope.wanted_closed, FilledTemplatesFit.fitting}
+use Rattle.tp_checks.proofs.FilledValuesHaveType.{fits_64_bits, typed}
 
-module _ (scope : Scope) (variables : Variables) where
+module _ (scope : Visible) (variables : Variables) where
   -- where a body is played whose names are those of the scope
   abbrev stage : Stage
-  stage = record { types = scope.types.now; ports = length scope.component_type.now.ports.entries; references = reference_count scope; variables = variables.types }
+  stage = record { types = scope.types; ports = length scope.ports.names; references = reference_count scope; variables = variables.types }
 
-  port_there : (name : List ℕ) (place : ℕ) (port : PortType) → IsPortNamed scope.component_type.now name place port → place < length scope.component_type.now.ports.entries
-  port_there name place port h =
-      omega (
-        arith,
-        slice_get_within (declared_port_names scope.component_type.now) place name h.named.there,
-        length-map scope.component_type.now.ports.entries (λ e. string_bytes e.0),
-      )
+  port_there : (name : List ℕ) (place : ℕ) (port : PortType) → IsPortNamed scope name place port → place < length scope.ports.names
+  port_there name place port h = slice_get_within scope.ports.names place name h.named.there
 
   module _ (turns : List (List ℕ)) where
     reference_there : (x : ComponentName) (k : ℕ) → IsReference scope variables turns x k → k < reference_count scope
@@ -59,14 +36,14 @@ module _ (scope : Scope) (variables : Variables) where
     reference_there x k (n.component_named name j no_turn no_variable h) =
         omega (
           arith,
-          slice_get_within (scope.parameters.now ++ scope.component_variables.now) j name h.there,
-          length-append scope.parameters.now scope.component_variables.now,
+          slice_get_within (scope.parameters ++ scope.component_variables) j name h.there,
+          length-append scope.parameters scope.component_variables,
         )
 
     sent_played : (sendable : List Ty) (x : SentExpression) (y : Sent) → IsSent scope variables turns sendable x y → CanSay stage (length turns) y
     sent_played sendable x y (b.written t m h l) = record {
-      around = value_closed scope.types.now turns h.fits;
-      typed = λ zs fit. typed scope.types.now turns zs (fits_64_bits zs fit) m.ty t.value m.value h.fits;
+      around = value_closed scope.types turns h.fits;
+      typed = λ zs fit. typed scope.types turns zs (fits_64_bits zs fit) m.ty t.value m.value h.fits;
     }
     sent_played sendable x y (b.counter name k h l) = record {
       around = omega (arith, needed_turn k, slice_get_within turns k name h.there);
@@ -87,9 +64,9 @@ module _ (scope : Scope) (variables : Variables) where
       to = receiver_played x.to y.to h.receiver;
     }
 
-    wanted_fits : (receivable : List Ty) (x : Option MessageTemplate) (y : RecvMsg) → IsWanted scope turns receivable x y → IsAlwaysFitting scope.types.now y
+    wanted_fits : (receivable : List Ty) (x : Option MessageTemplate) (y : RecvMsg) → IsWanted scope turns receivable x y → IsAlwaysFitting scope.types y
     wanted_fits receivable x y b.every_message = λ zs fit. tt
-    wanted_fits receivable x y (b.matching t u r known l h) = λ zs fit. fitting scope.types.now turns zs (fits_64_bits zs fit) u t.template r h
+    wanted_fits receivable x y (b.matching t u r known l h) = λ zs fit. fitting scope.types turns zs (fits_64_bits zs fit) u t.template r h
 
     wanted_played : (receivable : List Ty) (x : Option MessageTemplate) (y : RecvMsg) → IsWanted scope turns receivable x y → CanWant stage (length turns) y
     wanted_played receivable x y h = record { around = wanted_closed scope variables turns receivable h; fits = wanted_fits receivable x y h }
@@ -146,13 +123,13 @@ module _ (scope : Scope) (variables : Variables) where
         Each-push (λ x n. CanEnter stage n x) (length turns) ys y (branches_played h) (branch_played one)
 
 -- a body can be played on the component type of its scope, with the references of the scope
-pub body_played : (scope : Scope) (xs : List Variable) (statements : List StatementText) (body : Body) → IsBody scope xs statements body
-    → IsPlayable scope.types.now (length scope.component_type.now.ports.entries) (reference_count scope) body
+pub body_played : (scope : Visible) (xs : List Variable) (statements : List StatementText) (body : Body) → IsBody scope xs statements body
+    → IsPlayable scope.types (length scope.ports.names) (reference_count scope) body
 body_played scope xs statements body h = record {
   statements =
       subst (λ types. CanPlayAll (record {
-        types = scope.types.now;
-        ports = length scope.component_type.now.ports.entries;
+        types = scope.types;
+        ports = length scope.ports.names;
         references = reference_count scope;
         variables = types;
       }) 0 body.statements)

@@ -1,16 +1,13 @@
 -- The variables of a body: what their rule fixes, and what it says of each.
 use Rattle.std.proofs.Common.{◌⊎◌, inl, inr, ◌≡◌, ℕ, ◌<◌, List, [], ◌∷◌, ◌++◌, Some, length, take, slice_get, refl, sym, ap, ◌∙◌, subst, arith}
-use Rattle.std.proofs.Math.Seq.{take-length}
-use Rattle.std.proofs.lemmas.List.{length_push, same_from_push, take-append-le}
+use Rattle.std.proofs.{Math.Seq.take-length, lemmas.List.length_push, lemmas.List.same_from_push, lemmas.List.take-append-le}
 use Rattle.std.proofs.lemmas.Option.{slice_get_within}
 use Rattle.tp_tree.specs.declared.tree.Variable.{Variable}
 use Rattle.tp_play.specs.declared.body.VariableType.{VariableType}
-use Rattle.tp_checks.specs.declared.scope.Scope.{Scope}
 use Rattle.tp_checks.specs.declared.scope.Variables.{Variables}
-use Rattle.tp_checks.specs.Scoping.{AreTyped, IsNew}
+use Rattle.tp_checks.specs.Scoping.{AreTyped, IsNew, Visible}
 use Rattle.tp_checks.specs.Bodies.{AreVariables, no_variable, one_variable_more, IsVariableType}
-use Rattle.tp_checks.proofs.NameLookupsAreUnique.{held_fixed}
-use Rattle.tp_checks.proofs.PlacedEntriesGrowth.{push_cases}
+use Rattle.tp_checks.proofs.{NameLookupsAreUnique.held_fixed, PlacedEntriesGrowth.push_cases}
 
 -- a list with one more isn't empty
 no_push : {A : Type 0} (xs : List A) (x : A) → [] ≡ xs ++ x ∷ [] → ⊥
@@ -19,7 +16,7 @@ no_push xs x e = omega (arith, length_push xs x, ap length e)
 same_variables : (vs ws : Variables) → vs.names ≡ ws.names → vs.types ≡ ws.types → vs ≡ ws
 same_variables vs ws p q = ap (λ n. record vs { names = n }) p ∙ ap (λ t. record ws { types = t }) q
 
-module _ (scope : Scope) where
+module _ (scope : Visible) where
   pub typed_variables : {xs : List Variable} {vs : Variables} → AreVariables scope xs vs → AreTyped vs
   typed_variables (no_variable vs names types) = record { as_many = ap length types ∙ sym (ap length names) }
   typed_variables (one_variable_more xs vs ws x held before few is_held new names types) =

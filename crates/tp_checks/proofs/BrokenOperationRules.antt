@@ -2,30 +2,25 @@
 use Rattle.std.proofs.Common.{◌⊎◌, inl, inr, ◌≡◌, ℕ, List, Some, Contains, refl, subst}
 use Rattle.tp_tree.specs.declared.tree.ComponentName.{ComponentName}
 use Rattle.tp_tree.specs.declared.tree.ComponentName.TheVariants as c
-use Rattle.tp_checks.specs.declared.fault.ModuleRule.{ModuleRule}
+use Rattle.tp_checks.specs.declared.fault.{ModuleRule.ModuleRule, ModuleFault.ModuleFault}
 use Rattle.tp_checks.specs.declared.fault.ModuleRule.TheVariants as rule
-use Rattle.tp_checks.specs.declared.fault.ModuleFault.{ModuleFault}
 use Rattle.tp_checks.specs.declared.fault.ModuleFault.TheVariants as module_fault
-use Rattle.tp_checks.specs.Named.{IsAbsent}
-use Rattle.tp_checks.specs.Refused.{TellsAt}
-use Rattle.tp_checks.specs.declared.scope.Scope.{Scope}
+use Rattle.tp_checks.specs.{Named.IsAbsent, Refused.TellsAt, Scoping.IsReference, Scoping.Visible}
+use Rattle.tp_checks.specs.BrokenOperations.{FromBreaks, NamesNoComponent, ReceiverBreaks}
 use Rattle.tp_checks.specs.declared.scope.Variables.{Variables}
 use Rattle.tp_checks.specs.Scoping as d
-use Rattle.tp_checks.specs.Scoping.{IsReference}
 use Rattle.tp_checks.specs.BrokenOperations as b
-use Rattle.tp_checks.specs.BrokenOperations.{FromBreaks, NamesNoComponent, ReceiverBreaks}
 use Rattle.tp_tree.specs.declared.tree.Receivers.TheVariants as destination
-use Rattle.tp_checks.proofs.NameLookupsAreUnique.{absent_contained, absent_place}
-use Rattle.tp_checks.proofs.RuleFaultPropagation.{told_rule}
+use Rattle.tp_checks.proofs.{NameLookupsAreUnique.absent_contained, NameLookupsAreUnique.absent_place, RuleFaultPropagation.told_rule}
 
 -- what is no reference is a name
-pub only_named : (scope : Scope) (variables : Variables) (turns : List (List ℕ)) (x : ComponentName)
+pub only_named : (scope : Visible) (variables : Variables) (turns : List (List ℕ)) (x : ComponentName)
     → ((k : ℕ) → IsReference scope variables turns x k → ⊥) → (n : List ℕ) × (x ≡ c.Named n)
 only_named scope variables turns c.Mtc none = absurd (none 0 d.mtc)
 only_named scope variables turns c.SelfComponent none = absurd (none 1 d.itself)
 only_named scope variables turns (c.Named n) none = (n, refl)
 
-module _ (scope : Scope) (variables : Variables) (turns : List (List ℕ)) (line : ℕ) (f : ModuleFault) where
+module _ (scope : Visible) (variables : Variables) (turns : List (List ℕ)) (line : ℕ) (f : ModuleFault) where
   -- what is told of a name behind `from` that is no reference
   pub no_reference_told : (x : ComponentName) (n : List ℕ) → x ≡ c.Named n → ((k : ℕ) → IsReference scope variables turns x k → ⊥)
       → (Contains variables.names n × (f ≡ module_fault.Refused rule.WrongType line))
@@ -43,7 +38,7 @@ module _ (scope : Scope) (variables : Variables) (turns : List (List ℕ)) (line
   nobody_told c.SelfComponent no_variable none is = absurd (none 1 d.itself)
   nobody_told (c.Named n) no_variable none is = told_rule _ _ _ f is (b.to_nobody n (no_variable n refl) none)
 
-module _ (scope : Scope) (variables : Variables) (turns : List (List ℕ)) where
+module _ (scope : Visible) (variables : Variables) (turns : List (List ℕ)) where
   -- a name behind `to` that a variable has
   pub variable_told : (n : List ℕ) → IsAbsent turns n → Contains variables.names n → {r : ModuleRule}
       → NamesNoComponent scope variables turns n r

@@ -1,8 +1,7 @@
 -- The lines of the definition of broken values, as rules on values that are known by an equation.
 use Rattle.std.proofs.Common.{◌≡◌, List, Option, None, Some, Bor, refl}
 use Rattle.std.specs.Option.{option_copied}
-use Rattle.tp_value.specs.declared.types.Field.{Field}
-use Rattle.tp_value.specs.declared.types.TypeDef.{TypeDef}
+use Rattle.tp_value.specs.declared.types.{Field.Field, TypeDef.TypeDef}
 use Rattle.tp_value.specs.declared.types.TypeDef.TheVariants as def
 
 -- a definition that was looked up, and is that of a record

@@ -4,13 +4,11 @@ use Rattle.std.proofs.lemmas.Bool.{cases_lt}
 use Rattle.tp_value.specs.declared.verdict.Verdict.{Verdict}
 use Rattle.tp_common.specs.declared.operation.PortOperation.{PortOperation}
 use Rattle.tp_play.specs.Sizes.{size_limit, capped, turns_between, statement_step, branch_step, size_of, size_in, size_of_all, size_in_all}
-use Rattle.tp_play.specs.declared.body.SendOperation.{SendOperation}
-use Rattle.tp_play.specs.declared.body.Receiving.{Receiving}
-use Rattle.tp_play.specs.declared.body.ResolvedStatement.{ResolvedStatement}
-use Rattle.tp_play.specs.declared.body.ResolvedStatement.TheVariants as s
-use Rattle.tp_play.specs.declared.body.ResolvedStatement.TheOpen as o
+use Rattle.tp_play.specs.declared.body.{SendOperation.SendOperation, Receiving.Receiving, ResolvedStatement.ResolvedStatement}
 use Rattle.tp_play.specs.declared.body.ResolvedStatement.TheFolds.{fold-roll-ResolvedStatement, fold_out-ResolvedBranch}
 use Rattle.tp_play.specs.declared.body.ResolvedBranch.{ResolvedBranch}
+use Rattle.tp_play.specs.declared.body.ResolvedStatement.TheVariants as s
+use Rattle.tp_play.specs.declared.body.ResolvedStatement.TheOpen as o
 
 pub cap_below : (n : ℕ) → n < size_limit → capped n ≡ n
 cap_below n lt = grind (arith, lt)

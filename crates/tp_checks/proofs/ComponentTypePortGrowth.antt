@@ -1,13 +1,12 @@
 -- A port that is added to a component type.
 use Rattle.std.proofs.Common.{◌≡◌, ℕ, ◌+◌, Bool, true, false, cond, List, [], ◌∷◌, ◌++◌, None, Some, map, position, Contains, refl, ap, sym, ◌∙◌, subst, arith, add-one, Global, string_bytes}
+use Rattle.std.proofs.lemmas.Slice.Eq.{bytes_eq-Decides}
 use Rattle.std.specs.declared.string.String.{String}
 use Rattle.std.specs.Str.{bytes_eq}
-use Rattle.std.proofs.lemmas.Slice.Eq.{bytes_eq-Decides}
 use Rattle.indexmap.specs.IndexMap.{insert_entry}
 use Rattle.tp_value.specs.declared.types.Ty.{Ty}
 use Rattle.tp_config.specs.declared.port_type.PortType.{PortType}
-use Rattle.tp_config.specs.Setup.{PortDecl}
-use Rattle.tp_config.specs.Shape.{decl_of}
+use Rattle.tp_config.specs.{Setup.PortDecl, Shape.decl_of}
 use Rattle.tp_checks.proofs.NameSetLookups.{place_known, place_unknown}
 use Rattle.tp_config.proofs.ComponentAndPortLookups.{position_map}
 

@@ -1,16 +1,12 @@
 -- One more component.
 use Rattle.std.proofs.Common.{◌≡◌, ◌≤◌, ℕ, ◌+◌, ◌<◌, List, [], ◌∷◌, ◌++◌, None, Some, Contains, length, take, get_or, map, sym, ap, ◌∙◌, subst, append-nil, append_assoc, refl}
-use Rattle.std.specs.Option.{option_to_list}
-use Rattle.std.specs.List.{AllZip}
-use Rattle.std.proofs.lemmas.List.{map_push, length-map}
-use Rattle.tp_tree.specs.declared.tree.Creation.{Creation}
-use Rattle.tp_tree.specs.declared.tree.SetupStatement.{SetupStatement}
+use Rattle.std.proofs.{lemmas.List.map_push, lemmas.List.length-map, lemmas.List.Elements.All-push}
+use Rattle.std.specs.{Option.option_to_list, List.AllZip}
+use Rattle.tp_tree.specs.declared.tree.{Creation.Creation, SetupStatement.SetupStatement}
 use Rattle.tp_config.specs.Setup.{Setup, Member, names_of_components}
 use Rattle.tp_checks.specs.Tables.{AreDistinct}
-use Rattle.tp_checks.proofs.NameSetLookups.{distinct_more}
 use Rattle.tp_checks.specs.Components.{Adds, AddsAll, Declared, HasSoundVariables, IsMember, creation_of, creations, variable_name}
-use Rattle.tp_checks.proofs.ListPrefixGrowth.{kept_more, zip_push}
-use Rattle.std.proofs.lemmas.List.Elements.{All-push}
+use Rattle.tp_checks.proofs.{NameSetLookups.distinct_more, ListPrefixGrowth.kept_more, ListPrefixGrowth.zip_push}
 
 module _ (xs : List SetupStatement) (i : ℕ) (x : SetupStatement) (lt : i < length xs) (is : x ≡ get_or xs i x) where
   -- a statement that makes no component, and one that makes one

@@ -2,29 +2,21 @@
 use Rattle.std.proofs.Common.{◌≡◌, ◌⊎◌, inl, inr, ℕ, ◌+◌, ◌<◌, Option, Some, IfSome, is_some, List, [], ◌++◌, Contains, length, take, drop, get_or, map, codes, refl, sym, ap, ◌∙◌, subst, arith, append-nil}
 use Rattle.std.proofs.lemmas.List.{length-append, length-map, length_push}
 use Rattle.std.proofs.lemmas.List.Elements.{Contains-append_cases}
-use Rattle.tp_tree.specs.declared.tree.Creation.{Creation}
-use Rattle.tp_tree.specs.declared.tree.SetupStatement.{SetupStatement}
-use Rattle.tp_tree.specs.declared.tree.TestCase.{TestCase}
+use Rattle.tp_tree.specs.declared.tree.{Creation.Creation, SetupStatement.SetupStatement, TestCase.TestCase}
 use Rattle.tp_config.specs.declared.creating.CreateFault.{CreateFault}
 use Rattle.tp_config.specs.declared.creating.CreateFault.TheVariants as create_fault
 use Rattle.tp_config.specs.declared.port_type.Role.TheVariants as role
-use Rattle.tp_config.specs.Setup.{Setup, Member, names_of_components}
-use Rattle.tp_config.specs.Shape.{member}
-use Rattle.tp_config.specs.Causes.{CreateRefused}
-use Rattle.tp_checks.specs.declared.fault.ModuleRule.{ModuleRule}
+use Rattle.tp_config.specs.{Setup.Setup, Setup.Member, Setup.names_of_components, Shape.member, Causes.CreateRefused}
+use Rattle.tp_checks.specs.declared.fault.{ModuleRule.ModuleRule, ModuleFault.ModuleFault}
 use Rattle.tp_checks.specs.declared.fault.ModuleRule.TheVariants as module_rule
-use Rattle.tp_checks.specs.declared.fault.ModuleFault.{ModuleFault}
 use Rattle.tp_checks.specs.declared.fault.ModuleFault.TheVariants as module_fault
-use Rattle.tp_checks.specs.Refused.{TellsAt}
+use Rattle.tp_checks.specs.{Refused.TellsAt, BrokenNames.NameBreaks, BrokenNames.already_given, BrokenNames.crowded}
 use Rattle.tp_checks.specs.Additions.{AdditionBreaks, AwaitsInterface, HasRoomForVariables, InterfaceBreaks, StopsCreating, addition_many, addition_taken, addition_unknown, interface_named}
-use Rattle.tp_checks.specs.BrokenNames.{NameBreaks, already_given, crowded}
 use Rattle.tp_checks.specs.BrokenSetup.{CreationBreaks, component, taken}
 use Rattle.tp_checks.specs.Components.{AddsAll, Declared, HasSoundVariables, IsSoundVariable, created, creation_of, creations, variable_name, variables}
-use Rattle.tp_checks.proofs.AddableComponents.{names_created}
-use Rattle.tp_checks.proofs.DistinctNamesInParts.{repeated}
-use Rattle.tp_checks.proofs.NameFaultsTold.{split_here}
-use Rattle.tp_checks.specs.BrokenSetup as b
+use Rattle.tp_checks.proofs.{AddableComponents.names_created, DistinctNamesInParts.repeated, NameFaultsTold.split_here}
 use Rattle.tp_checks.proofs.NameSetLookups.{place_unknown}
+use Rattle.tp_checks.specs.BrokenSetup as b
 
 -- a create that is refused
 pub addition_told : (types : List (List ℕ)) (x : Declared) (s : Setup) (name : List ℕ) (kind : ℕ) (f : CreateFault) (fault : ModuleFault) (line : ℕ)

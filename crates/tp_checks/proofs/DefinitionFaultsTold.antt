@@ -1,18 +1,14 @@
 -- A definition that breaks a rule.
 use Rattle.std.proofs.Common.{◌≡◌, ◌<◌, inl, inr, ℕ, ◌+◌, Option, List, All, length, take, drop, get_or, refl, sym, subst, arith}
-use Rattle.tp_tree.specs.declared.tree.ComponentType.{ComponentType}
-use Rattle.tp_tree.specs.declared.tree.Defined.{Defined}
+use Rattle.tp_tree.specs.declared.tree.{ComponentType.ComponentType, Defined.Defined, Definition.Definition}
 use Rattle.tp_tree.specs.declared.tree.Defined.TheVariants as d
-use Rattle.tp_tree.specs.declared.tree.Definition.{Definition}
 use Rattle.tp_checks.specs.declared.fault.ModuleFault.{ModuleFault}
 use Rattle.tp_checks.specs.Refused.{Tells, TellsAt}
 use Rattle.tp_checks.specs.BrokenDefinitions.{DefinitionBreaks, DefinitionsBreak, many_ports, unknown_port_type}
 use Rattle.tp_checks.specs.Rules.{ArePortTypesKnown, HasFewPorts, IsComponentFault, IsSound}
 use Rattle.tp_checks.proofs.KnownNamesByLookup.{each_known, each_there, messages_there}
-use Rattle.tp_checks.proofs.NameFaultsTold.{split_here}
-use Rattle.tp_checks.proofs.RuleFaultPropagation.{told_from}
+use Rattle.tp_checks.proofs.{NameFaultsTold.split_here, RuleFaultPropagation.told_from, SoundDefinitionRules.soundness}
 use Rattle.tp_checks.specs.BrokenDefinitions as b
-use Rattle.tp_checks.proofs.SoundDefinitionRules.{soundness}
 
 module _ (types ports components : List (List ℕ)) (system : Option (List ℕ)) where
   -- a component type that is refused

@@ -1,27 +1,17 @@
 -- Names that are different and few: parts of a list of them.
 use Rattle.std.proofs.Common.{◌≡◌, ◌≢◌, ℕ, suc, ◌+◌, ◌<◌, ◌≤◌, List, [], ◌∷◌, ◌++◌, Option, None, Some, All, Contains, arith, length, take, drop, get_or, map, sym, ap, ◌∙◌, subst, refl, is_some, false, ◌||◌}
-use Rattle.std.specs.List.{cons_option, list_any}
 use Rattle.std.proofs.lemmas.List.{get_or_append_left, get_or-map, length-append, length-map, take-append-drop}
+use Rattle.std.proofs.{lemmas.List.map-append, lemmas.List.Kept.AllPairs-cons, lemmas.Option.same_Some}
+use Rattle.std.proofs.lemmas.List.{get_or_push, length_push}
 use Rattle.std.proofs.lemmas.List.Elements.{All-cons, All-head, All-map, All-nil, All-tail, filter_map-append}
-use Rattle.std.proofs.lemmas.List.Kept.{AllPairs-cons}
-use Rattle.tp_tree.specs.declared.tree.Definition.{Definition}
-use Rattle.tp_tree.specs.declared.tree.Defined.{Defined}
+use Rattle.std.specs.{List.cons_option, List.list_any, List.AllZip, Option.option_to_list}
+use Rattle.tp_tree.specs.declared.tree.{Definition.Definition, Defined.Defined, PortType.PortType, ComponentType.ComponentType}
+use Rattle.tp_tree.specs.declared.tree.{Function.Function, TestCase.TestCase}
 use Rattle.tp_tree.specs.declared.tree.Defined.TheVariants as defined
-use Rattle.tp_checks.specs.Tables.{AreDistinct, IsNumbered}
-use Rattle.tp_tree.specs.declared.tree.PortType.{PortType}
-use Rattle.tp_tree.specs.declared.tree.ComponentType.{ComponentType}
-use Rattle.tp_tree.specs.declared.tree.Function.{Function}
-use Rattle.tp_tree.specs.declared.tree.TestCase.{TestCase}
-use Rattle.std.proofs.lemmas.List.{map-append}
-use Rattle.std.proofs.lemmas.Option.{same_Some}
-use Rattle.std.specs.Option.{option_to_list}
+use Rattle.tp_checks.specs.{Tables.AreDistinct, Tables.IsNumbered, Resolved.IsNamedType}
 use Rattle.tp_checks.specs.Definitions.{of_kind, case_of, component_type_of, function_of, name_of, port_type_of, type_of}
 use Rattle.tp_value.specs.declared.types.TypeDef.{TypeDef}
-use Rattle.std.specs.List.{AllZip}
-use Rattle.std.proofs.lemmas.List.{get_or_push, length_push}
-use Rattle.tp_checks.specs.Resolved.{IsNamedType}
-use Rattle.tp_checks.proofs.ModuleRefusalPropagation.{mapped_behind}
-use Rattle.tp_checks.proofs.ListPrefixGrowth.{kept_more}
+use Rattle.tp_checks.proofs.{ModuleRefusalPropagation.mapped_behind, ListPrefixGrowth.kept_more}
 
 pub distinct_first : (xs ys : List (List ℕ)) → AreDistinct (xs ++ ys) → AreDistinct xs
 distinct_first xs ys each i j d less below same =
@@ -118,34 +108,19 @@ numbered_kind_first kind name xs i h =
 pub type_named : (x : Defined) (y : Defined) → type_of x ≡ Some y → name_of y ≡ name_of x
 type_named (defined.Record r) y e = ap name_of (sym (same_Some (defined.Record r) y e))
 type_named (defined.List l) y e = ap name_of (sym (same_Some (defined.List l) y e))
-type_named (defined.Port p) y e = absurd (cc)
-type_named (defined.Component c) y e = absurd (cc)
-type_named (defined.Function f) y e = absurd (cc)
-type_named (defined.TestCase t) y e = absurd (cc)
+type_named _ y e = absurd (cc)
 
 pub port_named : (x : Defined) (y : PortType) → port_type_of x ≡ Some y → y.name ≡ name_of x
-port_named (defined.Record r) y e = absurd (cc)
-port_named (defined.List l) y e = absurd (cc)
 port_named (defined.Port p) y e = ap (λ (z : PortType). z.name) (sym (same_Some p y e))
-port_named (defined.Component c) y e = absurd (cc)
-port_named (defined.Function f) y e = absurd (cc)
-port_named (defined.TestCase t) y e = absurd (cc)
+port_named _ y e = absurd (cc)
 
 pub component_named : (x : Defined) (y : ComponentType) → component_type_of x ≡ Some y → y.name ≡ name_of x
-component_named (defined.Record r) y e = absurd (cc)
-component_named (defined.List l) y e = absurd (cc)
-component_named (defined.Port p) y e = absurd (cc)
 component_named (defined.Component c) y e = ap (λ (z : ComponentType). z.name) (sym (same_Some c y e))
-component_named (defined.Function f) y e = absurd (cc)
-component_named (defined.TestCase t) y e = absurd (cc)
+component_named _ y e = absurd (cc)
 
 pub function_named : (x : Defined) (y : Function) → function_of x ≡ Some y → y.name ≡ name_of x
-function_named (defined.Record r) y e = absurd (cc)
-function_named (defined.List l) y e = absurd (cc)
-function_named (defined.Port p) y e = absurd (cc)
-function_named (defined.Component c) y e = absurd (cc)
 function_named (defined.Function f) y e = ap (λ (z : Function). z.name) (sym (same_Some f y e))
-function_named (defined.TestCase t) y e = absurd (cc)
+function_named _ y e = absurd (cc)
 
 -- a name that is there can't be added
 pub repeated : (xs : List (List ℕ)) (name : List ℕ) → Contains xs name → AreDistinct (xs ++ name ∷ []) → ⊥
@@ -161,9 +136,8 @@ map_twice g f (x ∷ xs) = ap (λ l. g (f x) ∷ l) (map_twice g f xs)
 type_names_of : (types : List (List ℕ)) (xs : List Defined) (made : List (List ℕ × TypeDef)) → AllZip (IsNamedType types) xs made
     → map (λ (t : List ℕ × TypeDef). t.0) made ≡ map name_of xs
 type_names_of types [] [] each = refl
-type_names_of types [] (t ∷ made) each = absurd each
-type_names_of types (x ∷ xs) [] each = absurd each
 type_names_of types (x ∷ xs) (t ∷ made) each = rw (each.0.0, type_names_of types xs made each.1)
+type_names_of _ _ _ each = absurd each
 
 -- one more type has a new name, where all names are numbered
 pub type_numbered : {A : Type 0} (types : List (List ℕ)) (f : A → Defined) (xs : List A) (made : List (List ℕ × TypeDef)) (i : ℕ) (x : A) → i < length xs

@@ -1,14 +1,11 @@
 -- Each field has an entry that stands for something, and there are no more entries than fields.
 use Rattle.std.proofs.Common.{option_map, ◌≡◌, ℕ, List, length, map, Some, slice_get, get_or, Contains, sym, ap, ◌∙◌, arith, subst}
-use Rattle.std.specs.List.{AllZip}
-use Rattle.std.proofs.lemmas.List.{length-map}
-use Rattle.std.proofs.lemmas.List.Elements.{All-map}
+use Rattle.std.proofs.{lemmas.List.length-map, lemmas.List.Elements.All-map}
 use Rattle.std.proofs.lemmas.Option.{slice_get-get_or, slice_get_within, get_or_from_slice_get, slice_get-map}
+use Rattle.std.specs.List.{AllZip}
 use Rattle.tp_value.specs.declared.types.Field.{Field}
-use Rattle.tp_checks.specs.Tables.{AreDistinct}
-use Rattle.tp_checks.specs.Placing.{HaveEntries, field_names}
-use Rattle.tp_checks.proofs.ListPrefixGrowth.{contains_at, zip_beside}
-use Rattle.tp_checks.proofs.UniqueZipsAndPlaces.{same_named}
+use Rattle.tp_checks.specs.{Tables.AreDistinct, Placing.HaveEntries, Placing.field_names}
+use Rattle.tp_checks.proofs.{ListPrefixGrowth.contains_at, ListPrefixGrowth.zip_beside, UniqueZipsAndPlaces.same_named}
 use Rattle.tp_checks.proofs.DistinctNamesByCount.{none_twice}
 
 -- as many names as fields, and each field's: no two of them are one

@@ -1,21 +1,18 @@
 -- Entries in the order of the text, and what they stand for in declared order.
-use Rattle.std.proofs.Common.{option_map, ◌⊎◌, inl, inr, ◌≡◌, ◌≢◌, ℕ, zero, suc, ◌+◌, ◌<◌, ◌≤◌, List, [], ◌∷◌, ◌++◌, length, map, take, Some, slice_get, slice_set, get_or, Contains, refl, sym, ap, ◌∙◌, arith, subst, add-one}
-use Rattle.std.proofs.Math.Seq.{take-length}
-use Rattle.std.proofs.lemmas.Bool.{cases_lt}
+use Rattle.std.proofs.Common.{option_map, ◌⊎◌, inl, inr, ◌≡◌, ◌≢◌, ℕ, zero, suc, ◌+◌, ◌<◌, ◌≤◌, List, [], ◌∷◌, ◌++◌, length, map, take, Some, slice_get, slice_set, get_or, All, Contains, refl, sym, ap, ◌∙◌, arith, subst, add-one}
+use Rattle.std.proofs.{Math.Seq.take-length, lemmas.Bool.cases_lt, lemmas.List.Elements.All-map, lemmas.List.Elements.All-push}
 use Rattle.std.proofs.lemmas.List.{get_or-set_other, get_or-set_same, length-set, length-map, take_more}
-use Rattle.std.proofs.lemmas.List.Elements.{All-map}
 use Rattle.std.proofs.lemmas.Option.{slice_get-get_or, slice_get_within, slice_get_read, get_or_from_slice_get, same_Some, slice_get-map}
 use Rattle.tp_value.specs.declared.types.Field.{Field}
-use Rattle.tp_checks.specs.Placing.{HaveEntries, IsPlacing, field_names}
+use Rattle.tp_checks.specs.Placing.{HaveEntries, IsEntry, IsPlacing, field_names}
 
 -- each place is one of a field
-pub place_below : (fields : List Field) (names : List (List ℕ)) (places : List ℕ) → IsPlacing fields names places → (i d : ℕ) → i < length places
-    → get_or places i d < length fields
-place_below fields names places p i d below =
-    let here : slice_get places i ≡ Some (get_or places i d) = slice_get-get_or places i d below in
-    let name : slice_get names i ≡ Some (get_or names i []) = slice_get-get_or names i [] (omega (arith, p.as_many, below)) in
-    let there : slice_get (field_names fields) (get_or places i d) ≡ Some (get_or names i []) = p.same_name i (get_or places i d) here ∙ name in
-    omega (arith, slice_get_within (field_names fields) (get_or places i d) (get_or names i []) there, length-map fields (λ f. f.name))
+pub place_below : (fields : List Field) (names : List (List ℕ)) (places : List ℕ) → IsPlacing fields names places → (i p : ℕ) → i < length names
+    → p ≡ get_or places i p → p < length fields
+place_below fields names places h i p below at =
+    let here : slice_get places i ≡ Some p = slice_get_read places (length places) i p refl (omega (arith, h.as_many, below)) at in
+    let name : slice_get names i ≡ Some (get_or names i []) = slice_get-get_or names i [] below in
+    omega (arith, slice_get_within (field_names fields) p (get_or names i []) (h.same_name i p here ∙ name), length-map fields (λ f. f.name))
 
 -- so each field has an entry of its name
 pub placed_entries : (fields : List Field) (names : List (List ℕ)) (places : List ℕ) → IsPlacing fields names places → HaveEntries fields names
@@ -30,6 +27,9 @@ placed_entries fields names places p = record {
       sym same ∙ slice_get-map (λ g. g.name) fields k ∙ ap (option_map (λ g. g.name)) (slice_get-get_or fields k d below) in
       (at.0, slice_get_within names at.0 (get_or fields k d).name there, get_or_from_slice_get names at.0 (get_or fields k d).name (get_or fields k d).name there));
 }
+
+next : {A : Type 0} (xs : List A) (i : ℕ) (x : A) → slice_get xs i ≡ Some x → take i xs ++ x ∷ [] ≡ take (i + 1) xs
+next xs i x is = sym (take_more xs i x (slice_get_within xs i x is) ∙ ap (λ y. take i xs ++ y ∷ []) (get_or_from_slice_get xs i x x is))
 
 module _ {E W : Type 0} (name : E → List ℕ) (R : Field → E → W → Type 0) (entries : List E) (fields : List Field) where
   -- at place k stands what an entry of the field's name stands for
@@ -120,24 +120,43 @@ module _ {E W : Type 0} (name : E → List ℕ) (R : Field → E → W → Type 
     by (inr le) (inl gt) = other (omega arith)
     by (inr le) (inr ge) = let same : p ≡ k = omega arith in subst (λ m. HasEntry m (slice_set ws p y)) same new
 
-  -- once all entries are put at their places, each field has one
-  pub all_filled : (places : List ℕ) (n : ℕ) (ws : List W) → IsPlacing fields (map name entries) places → length places ≤ n → Filled places n ws → (k : ℕ)
-      → k < length fields → HasEntry k ws
-  all_filled places n ws placing le filled k below =
-      let c = placing.each k below in
-      filled c.0 k (omega (arith, c.1, le)) (slice_get-get_or places c.0 k c.1 ∙ ap Some c.2)
+  -- the first entries are put at the places of their fields, which they fit
+  pub record Entered (places : List ℕ) (n : ℕ) (ws : List W) : Type 0 where
+    pub as_many : length ws ≡ length fields
+    pub filled : Filled places n ws
+    pub fit : All (IsEntry name R fields) (take n entries)
 
-  -- a relation that goes field by field
+  pub entered_none : (places : List ℕ) (ws : List W) → length ws ≡ length fields → Entered places 0 ws
+  entered_none places ws many = record {
+    as_many = many;
+    filled = λ i k below there. absurd (omega (arith, below));
+    fit = λ k d below. absurd (omega (arith, below));
+  }
+
+  pub entered_more : {places : List ℕ} (n : ℕ) (ws : List W) (p : ℕ) (y : W) (f : Field) (x : E) → Placed places n p f x → R f x y → Entered places n ws
+      → Entered places (n + 1) (slice_set ws p y)
+  entered_more {places} n ws p y f x at stands before =
+      let fits : IsEntry name R fields x =
+      record { place = p; field = f; made = y; declared = at.is_field; same_name = at.same; fits = stands } in
+      record {
+        as_many = length-set ws p y ∙ before.as_many;
+        filled = filled_more places n ws p y f x at before.as_many stands before.filled;
+        fit = subst (All (IsEntry name R fields)) (next entries n x at.is_entry) (All-push (IsEntry name R fields) (take n entries) x before.fit fits);
+      }
+
+  -- once all entries are put at their places, what goes field by field holds
   pub in_order : (P : List Field → List W → Type 0) → P [] []
       → ((fs : List Field) (ws : List W) (f : Field) (j : ℕ) (x : E) (y : W)
       → P fs ws → slice_get entries j ≡ Some x → name x ≡ f.name → R f x y → P (fs ++ f ∷ []) (ws ++ y ∷ []))
-      → (ws : List W) → length ws ≡ length fields → ((k : ℕ) → k < length fields → HasEntry k ws) → P fields ws
-  in_order P none more ws many all =
+      → {places : List ℕ} (n : ℕ) (ws : List W) → IsPlacing fields (map name entries) places → length entries ≤ n → Entered places n ws → P fields ws
+  in_order P none more {places} n ws placing le entered =
       subst (λ l. P l ws) (take-length fields)
-      (subst (λ l. P (take (length fields) fields) l) (ap (λ m. take m ws) (sym many) ∙ take-length ws) (go (length fields) (omega arith)))
+      (subst (λ l. P (take (length fields) fields) l) (ap (λ m. take m ws) (sym entered.as_many) ∙ take-length ws) (go (length fields) (omega arith)))
     where
-      next : {A : Type 0} (xs : List A) (i : ℕ) (x : A) → slice_get xs i ≡ Some x → take i xs ++ x ∷ [] ≡ take (i + 1) xs
-      next xs i x is = sym (take_more xs i x (slice_get_within xs i x is) ∙ ap (λ y. take i xs ++ y ∷ []) (get_or_from_slice_get xs i x x is))
+      all : (k : ℕ) → k < length fields → HasEntry k ws
+      all k below =
+          let c = placing.each k below in
+          entered.filled c.0 k (omega (arith, c.1, le, placing.as_many, length-map entries name)) (slice_get-get_or places c.0 k c.1 ∙ ap Some c.2)
 
       go : (n : ℕ) → n ≤ length fields → P (take n fields) (take n ws)
       go zero le = none

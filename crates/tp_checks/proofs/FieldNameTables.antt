@@ -1,15 +1,12 @@
 -- The names of the fields of a record, put into a table one after the other, and looked up there.
 use Rattle.std.proofs.Common.{option_map, ◌≡◌, ℕ, ◌+◌, ◌<◌, List, [], ◌∷◌, ◌++◌, None, Some, map, take, length, get_or, slice_get, position, Contains, refl, sym, ap, ◌∙◌, subst, arith}
-use Rattle.std.specs.Str.{bytes_eq}
 use Rattle.std.proofs.lemmas.List.{get_or_default, get_or-take, take_more, length-map, length-take}
 use Rattle.std.proofs.lemmas.Option.{slice_get-map, slice_get_read, get_or_from_slice_get}
+use Rattle.std.specs.Str.{bytes_eq}
 use Rattle.indexmap.specs.IndexSet.{insert_key}
 use Rattle.tp_value.specs.declared.types.Field.{Field}
-use Rattle.tp_checks.specs.Named.{IsAbsent}
-use Rattle.tp_checks.specs.Tables.{AreDistinct}
-use Rattle.tp_checks.proofs.FirstPlacesOfNames.{position_is_place, position_is_nowhere}
-use Rattle.tp_checks.proofs.NameSetLookups.{key_added}
-use Rattle.tp_checks.specs.Placing.{field_names}
+use Rattle.tp_checks.specs.{Named.IsAbsent, Tables.AreDistinct, Placing.field_names}
+use Rattle.tp_checks.proofs.{FirstPlacesOfNames.position_is_place, FirstPlacesOfNames.position_is_nowhere, NameSetLookups.key_added}
 use Rattle.tp_config.proofs.ComponentAndPortLookups.{position_map}
 
 -- a name isn't among those before it

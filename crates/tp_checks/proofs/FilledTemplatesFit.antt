@@ -1,19 +1,13 @@
 -- What is filled fits its type.
 use Rattle.std.proofs.Common.{◌≡◌, ℕ, ℤ, pos, true, ◌⊎◌, inl, inr, List, [], ◌∷◌, ◌++◌, map, get_or, refl, ap, ◌∙◌, FitsSigned, w64, rules, arith}
 use Rattle.std.proofs.lemmas.List.{map-append}
-use Rattle.tp_value.specs.declared.types.Ty.{Ty}
-use Rattle.tp_value.specs.declared.types.Field.{Field}
-use Rattle.tp_value.specs.declared.types.Types.{Types}
-use Rattle.tp_value.specs.declared.template.Template.{Template}
+use Rattle.tp_value.specs.declared.types.{Ty.Ty, Field.Field, Types.Types}
+use Rattle.tp_value.specs.declared.template.{Template.Template, Template.TheViews.the_lemmas}
 use Rattle.tp_value.specs.declared.template.Template.TheVariants as made
-use Rattle.tp_value.specs.declared.template.Template.TheViews.{the_lemmas}
-use Rattle.tp_value.specs.HasType.{AllHave, FieldsHave}
-use Rattle.tp_value.specs.Matches.{is_many}
-use Rattle.tp_value.specs.Fits.{ElementsFit, Fits}
+use Rattle.tp_value.specs.{HasType.AllHave, HasType.FieldsHave, Matches.is_many, Fits.ElementsFit, Fits.Fits}
 use Rattle.tp_value.proofs.HasTypeEquations.{has_int, has_bool, has_text}
 use Rattle.tp_value.proofs.FitsEquations.{fits_exact, fits_any, fits_one_of, fits_none_of, fits_range, fits_pattern, fits_record, fits_list}
-use Rattle.tp_tree.specs.declared.message.Template.{Template as TemplateText}
-use Rattle.tp_tree.specs.declared.message.TemplateField.{TemplateField}
+use Rattle.tp_tree.specs.declared.message.{Template.Template as TemplateText, TemplateField.TemplateField}
 use Rattle.tp_play.specs.declared.body.RecvTemplate.{RecvTemplate}
 use Rattle.tp_checks.specs.Messages.{IsTemplate, int_template, bool_template, text_template, turn_template, any, one_of, none_of, range, pattern, element_templates, place_templates, field_templates, AreMembers, no_member, one_member_more, AreElementTemplates, no_element_template, one_element_template_more, IsElementTemplate, many, single, AreFieldTemplates, no_field_template, one_field_template_more, AreNamedTemplates, no_name_template, one_name_template_more}
 use Rattle.tp_play.specs.Fills.{filled_template}

@@ -1,14 +1,10 @@
 -- What is filled has its type.
 use Rattle.std.proofs.Common.{ℕ, ℤ, pos, inl, inr, List, [], ◌∷◌, ◌++◌, map, get_or, refl, FitsSigned, w64, All, length, rules}
-use Rattle.std.proofs.lemmas.Bool.{cases_lt}
-use Rattle.std.proofs.lemmas.List.{map-append, get_or_past}
-use Rattle.tp_value.specs.declared.types.Ty.{Ty}
-use Rattle.tp_value.specs.declared.types.Field.{Field}
-use Rattle.tp_value.specs.declared.types.Types.{Types}
+use Rattle.std.proofs.{lemmas.Bool.cases_lt, lemmas.List.map-append, lemmas.List.get_or_past}
+use Rattle.tp_value.specs.declared.types.{Ty.Ty, Field.Field, Types.Types}
 use Rattle.tp_value.specs.HasType.{AllHave, FieldsHave, HasType}
 use Rattle.tp_value.proofs.HasTypeEquations.{has_int, has_bool, has_text, has_record, has_list}
-use Rattle.tp_tree.specs.declared.message.Value.{Value as ValueText}
-use Rattle.tp_tree.specs.declared.message.ValueField.{ValueField}
+use Rattle.tp_tree.specs.declared.message.{Value.Value as ValueText, ValueField.ValueField}
 use Rattle.tp_play.specs.declared.body.SendValue.{SendValue}
 use Rattle.tp_checks.specs.Messages.{IsValue, int, bool, text, turn, elements, places, fields, AreElements, no_element, one_element_more, AreFields, no_field, one_field_more, AreNamed, no_name, one_name_more}
 use Rattle.tp_play.specs.Fills.{filled}
@@ -21,9 +17,8 @@ module _ {X : Type 0} (k : X → Ty → Type 0) where
 
   pub FieldsHave-push : (fs : List Field) (xs : List X) (f : Field) (y : X) → FieldsHave k fs xs → k y f.ty → FieldsHave k (fs ++ f ∷ []) (xs ++ y ∷ [])
   FieldsHave-push [] [] f y h one = (one, tt)
-  FieldsHave-push [] (x ∷ xs) f y h one = absurd h
-  FieldsHave-push (g ∷ fs) [] f y h one = absurd h
   FieldsHave-push (g ∷ fs) (x ∷ xs) f y h one = (h.0, FieldsHave-push fs xs f y h.1 one)
+  FieldsHave-push _ _ _ _ h _ = absurd h
 
 module _ (types : Types) (turns : List (List ℕ)) (zs : List ℤ) (fit : (k : ℕ) → FitsSigned w64 (get_or zs k (pos 0))) where
   mutual

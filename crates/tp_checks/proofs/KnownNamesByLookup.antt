@@ -1,11 +1,9 @@
 -- Names that are known.
 use Rattle.std.proofs.Common.{◌≡◌, ℕ, true, List, Option, None, Some, All, Contains, get_or, is_some, refl}
-use Rattle.std.specs.List.{list_all}
 use Rattle.std.proofs.lemmas.List.Sums.{AllPass-from_list_all, list_all-from_AllPass}
+use Rattle.std.specs.List.{list_all}
 use Rattle.tp_tree.specs.declared.tree.Direction.{Direction}
-use Rattle.tp_checks.specs.Tables.{place_of_name}
-use Rattle.tp_checks.specs.Resolved.{ty_of}
-use Rattle.tp_checks.specs.Rules.{NamesType, has_known_messages}
+use Rattle.tp_checks.specs.{Tables.place_of_name, Resolved.ty_of, Rules.NamesType, Rules.has_known_messages}
 use Rattle.tp_checks.proofs.NameSetLookups.{place_known, place_unknown}
 
 pub known : (names : List (List ℕ)) (name : List ℕ) → is_some (place_of_name names name) ≡ true → Contains names name

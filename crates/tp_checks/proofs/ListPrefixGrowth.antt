@@ -1,10 +1,9 @@
 -- One step of a loop over a list.
 use Rattle.std.proofs.Common.{◌≡◌, ℕ, zero, suc, ◌+◌, ◌<◌, ◌≤◌, List, [], ◌∷◌, ◌++◌, Option, None, Some, length, take, get_or, map, sym, ap, ◌∙◌, refl, subst, arith, All, Contains, add-one, slice_get}
-use Rattle.std.specs.List.{AllZip, filter_map, flat_map, cons_option, zip}
-use Rattle.std.specs.Option.{option_to_list}
 use Rattle.std.proofs.lemmas.List.{take_more, map_push, flat_map_more, take_all, append_assoc}
 use Rattle.std.proofs.lemmas.List.Elements.{All-push, filter_map-append}
 use Rattle.std.proofs.lemmas.Option.{same_Some, slice_get_read}
+use Rattle.std.specs.{List.AllZip, List.filter_map, List.flat_map, List.cons_option, List.zip, Option.option_to_list}
 
 -- the items up to the next one
 pub pushed : {A : Type 0} (xs : List A) (i : ℕ) (x : A) → i < length xs → x ≡ get_or xs i x → take i xs ++ x ∷ [] ≡ take (i + 1) xs
@@ -23,9 +22,8 @@ all_whole P xs i le each = subst (All P) (take_all i xs le) each
 
 pub zip_push : {A B : Type 0} (R : A → B → Type 0) (xs : List A) (ys : List B) (x : A) (y : B) → AllZip R xs ys → R x y → AllZip R (xs ++ x ∷ []) (ys ++ y ∷ [])
 zip_push R [] [] x y each here = (here, tt)
-zip_push R [] (b ∷ ys) x y each here = absurd each
-zip_push R (a ∷ xs) [] x y each here = absurd each
 zip_push R (a ∷ xs) (b ∷ ys) x y each here = (each.0, zip_push R xs ys x y each.1 here)
+zip_push _ _ _ _ _ each _ = absurd each
 
 pub zip_more : {A B : Type 0} (R : A → B → Type 0) (xs : List A) (ys : List B) (i : ℕ) (x : A) (y : B) → i < length xs → x ≡ get_or xs i x
     → AllZip R (take i xs) ys → R x y → AllZip R (take (i + 1) xs) (ys ++ y ∷ [])
@@ -64,10 +62,9 @@ behind_more before xs i x lt is = append_assoc before (take i xs) (x ∷ []) ∙
 pub zip_at : {A B : Type 0} (R : A → B → Type 0) (xs : List A) (ys : List B) (k : ℕ) (y : B) → AllZip R xs ys → slice_get ys k ≡ Some y
     → (x : A) × (slice_get xs k ≡ Some x) × R x y
 zip_at R [] [] k y each e = absurd (cc)
-zip_at R [] (b ∷ ys) k y each e = absurd each
-zip_at R (a ∷ xs) [] k y each e = absurd each
 zip_at R (a ∷ xs) (b ∷ ys) zero y each e = (a, refl, subst (R a) (same_Some b y e) each.0)
 zip_at R (a ∷ xs) (b ∷ ys) (suc k) y each e = zip_at R xs ys k y each.1 e
+zip_at _ _ _ _ _ each _ = absurd each
 
 pub contains_at : {A : Type 0} (xs : List A) (k : ℕ) (x : A) → slice_get xs k ≡ Some x → Contains xs x
 contains_at [] k x e = absurd (cc)
@@ -77,9 +74,8 @@ contains_at (a ∷ xs) (suc k) x e = let r = contains_at xs k x e in (r.0 + 1, o
 pub zip_append : {A B : Type 0} (R : A → B → Type 0) (xs more : List A) (ys others : List B) → AllZip R xs ys → AllZip R more others
     → AllZip R (xs ++ more) (ys ++ others)
 zip_append R [] more [] others each rest = rest
-zip_append R [] more (b ∷ ys) others each rest = absurd each
-zip_append R (a ∷ xs) more [] others each rest = absurd each
 zip_append R (a ∷ xs) more (b ∷ ys) others each rest = (each.0, zip_append R xs more ys others each.1 rest)
+zip_append _ _ _ _ _ each _ = absurd each
 
 -- two lists made of one
 pub zip_maps : {A B C : Type 0} (R : B → C → Type 0) (f : A → B) (g : A → C) (xs : List A) → ((x : A) → R (f x) (g x)) → AllZip R (map f xs) (map g xs)
@@ -102,7 +98,6 @@ zip_one_more (a ∷ xs) (b ∷ ys) x y e = ap (λ l. (a, b) ∷ l) (zip_one_more
 
 pub zip_pair : {A B : Type 0} (xs : List A) (ys : List B) (k : ℕ) (x : A) (y : B) → slice_get xs k ≡ Some x → slice_get ys k ≡ Some y
     → slice_get (zip xs ys) k ≡ Some (x, y)
-zip_pair [] ys k x y e f = absurd (cc)
-zip_pair (a ∷ xs) [] k x y e f = absurd (cc)
 zip_pair (a ∷ xs) (b ∷ ys) zero x y e f = cc
 zip_pair (a ∷ xs) (b ∷ ys) (suc k) x y e f = zip_pair xs ys k x y e f
+zip_pair _ _ k x y e f = absurd (cc)

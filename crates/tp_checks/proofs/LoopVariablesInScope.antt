@@ -1,49 +1,26 @@
 -- What stands for a text speaks of no loop variables but those around the text.
-use Rattle.std.proofs.Common.{◌≡◌, ℕ, ◌-◌, ◌≤◌, ℤ, Bool, List, [], ◌∷◌, ◌++◌, Option, None, Some, max, length, map, sym, ap, ◌∙◌, arith}
-use Rattle.std.proofs.lemmas.List.{length_push}
-use Rattle.std.proofs.lemmas.Option.{slice_get_within}
-use Rattle.tp_value.specs.declared.types.Ty.{Ty}
-use Rattle.tp_value.specs.declared.types.Field.{Field}
-use Rattle.tp_value.specs.declared.types.Types.{Types}
-use Rattle.tp_value.specs.declared.template.PatternPart.{PatternPart}
-use Rattle.tp_value.specs.declared.verdict.Verdict.{Verdict}
-use Rattle.tp_common.specs.declared.operation.PortOperation.{PortOperation}
-use Rattle.tp_tree.specs.declared.message.Value.{Value}
-use Rattle.tp_tree.specs.declared.message.ValueField.{ValueField}
-use Rattle.tp_tree.specs.declared.message.Template.{Template}
-use Rattle.tp_tree.specs.declared.message.TemplateField.{TemplateField}
-use Rattle.tp_tree.specs.declared.tree.SentExpression.{SentExpression}
+use Rattle.std.proofs.Common.{ℕ, ◌≤◌, List, [], ◌∷◌, ◌++◌, Option, None, Some, length, map, arith}
+use Rattle.std.proofs.{lemmas.List.length_push, lemmas.Option.slice_get_within}
+use Rattle.tp_value.specs.declared.types.{Ty.Ty, Field.Field, Types.Types}
+use Rattle.tp_tree.specs.declared.message.{Value.Value, ValueField.ValueField, Template.Template, TemplateField.TemplateField}
 use Rattle.tp_tree.specs.declared.message.MessageTemplate.{MessageTemplate}
-use Rattle.tp_tree.specs.declared.tree.Statement.{Statement as StatementText}
-use Rattle.tp_tree.specs.declared.tree.Action.{Action}
-use Rattle.tp_tree.specs.declared.tree.Branch.{Branch as BranchText}
-use Rattle.tp_tree.specs.declared.tree.BranchBody.{BranchBody}
-use Rattle.tp_tree.specs.declared.tree.Counted.{out-Counted}
-use Rattle.tp_play.specs.declared.body.SendValue.{SendValue}
-use Rattle.tp_play.specs.declared.body.SendValue.TheVariants as w
-use Rattle.tp_play.specs.declared.body.SendValue.TheOpen as v
-use Rattle.tp_play.specs.declared.body.SendValue.TheFolds.{fold-roll-SendValue}
-use Rattle.tp_play.specs.declared.body.RecvTemplate.{RecvTemplate}
-use Rattle.tp_play.specs.declared.body.RecvTemplate.TheVariants as r
-use Rattle.tp_play.specs.declared.body.RecvTemplate.TheOpen as p
-use Rattle.tp_play.specs.declared.body.RecvTemplate.TheFolds.{fold-roll-RecvTemplate}
-use Rattle.tp_play.specs.declared.body.RecvMsg.{RecvMsg}
-use Rattle.tp_play.specs.declared.body.Sent.{Sent}
-use Rattle.tp_play.specs.declared.body.SendOperation.{SendOperation}
-use Rattle.tp_play.specs.declared.body.Receiving.{Receiving}
-use Rattle.tp_play.specs.declared.body.ResolvedStatement.{ResolvedStatement}
-use Rattle.tp_play.specs.declared.body.ResolvedStatement.TheVariants as s
-use Rattle.tp_play.specs.declared.body.ResolvedStatement.TheOpen as o
+use Rattle.tp_tree.specs.declared.tree.{SentExpression.SentExpression, Statement.Statement as StatementText, Action.Action}
+use Rattle.tp_tree.specs.declared.tree.{Branch.Branch as BranchText, BranchBody.BranchBody, Counted.out-Counted}
+use Rattle.tp_play.specs.declared.body.{SendValue.SendValue, SendValue.TheFolds.fold-roll-SendValue, RecvTemplate.RecvTemplate, Sent.Sent}
+use Rattle.tp_play.specs.declared.body.{RecvTemplate.TheFolds.fold-roll-RecvTemplate, RecvMsg.RecvMsg, ResolvedStatement.ResolvedStatement}
 use Rattle.tp_play.specs.declared.body.ResolvedStatement.TheFolds.{fold-roll-ResolvedStatement, fold_out-ResolvedBranch}
 use Rattle.tp_play.specs.declared.body.ResolvedBranch.{ResolvedBranch}
-use Rattle.tp_checks.specs.declared.scope.Scope.{Scope}
+use Rattle.tp_play.specs.declared.body.SendValue.TheVariants as w
+use Rattle.tp_play.specs.declared.body.RecvTemplate.TheVariants as r
+use Rattle.tp_play.specs.declared.body.ResolvedStatement.TheVariants as s
 use Rattle.tp_checks.specs.declared.scope.Variables.{Variables}
-use Rattle.tp_checks.specs.Messages as d
+use Rattle.tp_checks.specs.Scoping.{Visible}
 use Rattle.tp_checks.specs.Messages.{IsValue, AreElements, AreFields, AreNamed, IsTemplate, AreMembers, AreElementTemplates, IsElementTemplate, AreFieldTemplates, AreNamedTemplates}
+use Rattle.tp_checks.specs.Bodies.{IsSent, IsWanted, IsStatement, IsBlock, IsBranch, IsAfter, AreBranches}
+use Rattle.tp_checks.specs.NeededLoopVariables.{needed_by_sent, needed_around, needed_around_branch, needed_around_all}
+use Rattle.tp_checks.specs.Messages as d
 use Rattle.tp_checks.specs.Bodies as b
-use Rattle.tp_checks.specs.Bodies.{IsSent, IsWanted, IsStatement, IsBlock, IsBranch, IsAfter, AreBranches, IsBody}
-use Rattle.tp_play.specs.Fills.{greatest, needed_step, needed, needed_template_step, needed_by_template, needed_by_wanted}
-use Rattle.tp_checks.specs.NeededLoopVariables.{needed_by_sent, needed_statement_step, needed_branch_step, needed_around, needed_around_branch, needed_around_all}
+use Rattle.tp_play.specs.Fills.{greatest, needed, needed_by_template, needed_by_wanted}
 use Rattle.tp_play.proofs.FilledValueEquations.{needed_turn, needed_record, needed_list, needed_by_exact, needed_by_one_of, needed_by_none_of, needed_by_record, needed_by_list}
 
 -- what is enough for all and for one more is enough for all of them
@@ -51,78 +28,14 @@ greatest_push : {A : Type 0} (f : A → ℕ) (xs : List A) (y : A) (n : ℕ) →
 greatest_push f [] y n all one = omega (arith, one)
 greatest_push f (x ∷ xs) y n all one = omega (arith, all, greatest_push f xs y n (omega (arith, all)) one)
 
-needed_int : (z : ℤ) → needed (w.Int z) ≡ 0
-unfolding needed
-needed_int z = ap needed (sym (w.rolls-Int z)) ∙ fold-roll-SendValue ℕ needed_step (v.Int z)
-
-needed_bool : (b : Bool) → needed (w.Bool b) ≡ 0
-unfolding needed
-needed_bool b = ap needed (sym (w.rolls-Bool b)) ∙ fold-roll-SendValue ℕ needed_step (v.Bool b)
-
-needed_text : (cs : List ℕ) → needed (w.Text cs) ≡ 0
-unfolding needed
-needed_text cs = ap needed (sym (w.rolls-Text cs)) ∙ fold-roll-SendValue ℕ needed_step (v.Text cs)
-
-needed_by_any : needed_by_template r.Any ≡ 0
-unfolding needed_by_template
-needed_by_any = ap needed_by_template (sym r.rolls-Any) ∙ fold-roll-RecvTemplate ℕ needed_template_step p.Any
-
-needed_by_many : needed_by_template r.AnyOrNone ≡ 0
-unfolding needed_by_template
-needed_by_many = ap needed_by_template (sym r.rolls-AnyOrNone) ∙ fold-roll-RecvTemplate ℕ needed_template_step p.AnyOrNone
-
-needed_by_range : (low high : Option ℤ) → needed_by_template (r.Range low high) ≡ 0
-unfolding needed_by_template
-needed_by_range low high = ap needed_by_template (sym (r.rolls-Range low high)) ∙ fold-roll-RecvTemplate ℕ needed_template_step (p.Range low high)
-
-needed_by_pattern : (ps : List PatternPart) → needed_by_template (r.Pattern ps) ≡ 0
-unfolding needed_by_template
-needed_by_pattern ps = ap needed_by_template (sym (r.rolls-Pattern ps)) ∙ fold-roll-RecvTemplate ℕ needed_template_step (p.Pattern ps)
-
-around_send : (x : SendOperation) → needed_around (s.Send x) ≡ needed_by_sent x.sent
-unfolding needed_around
-around_send x = ap needed_around (sym (s.rolls-Send x)) ∙ fold-roll-ResolvedStatement ℕ ℕ needed_statement_step needed_branch_step (o.Send x)
-
-around_receive : (x : Receiving) → needed_around (s.Receive x) ≡ needed_by_wanted x.wanted
-unfolding needed_around
-around_receive x = ap needed_around (sym (s.rolls-Receive x)) ∙ fold-roll-ResolvedStatement ℕ ℕ needed_statement_step needed_branch_step (o.Receive x)
-
-around_control : (k : ℕ) (x : PortOperation) → needed_around (s.Control k x) ≡ 0
-unfolding needed_around
-around_control k x = ap needed_around (sym (s.rolls-Control k x)) ∙ fold-roll-ResolvedStatement ℕ ℕ needed_statement_step needed_branch_step (o.Control k x)
-
-around_all_ports : (x : PortOperation) → needed_around (s.AllPorts x) ≡ 0
-unfolding needed_around
-around_all_ports x = ap needed_around (sym (s.rolls-AllPorts x)) ∙ fold-roll-ResolvedStatement ℕ ℕ needed_statement_step needed_branch_step (o.AllPorts x)
-
-around_set_verdict : (x : Verdict) → needed_around (s.SetVerdict x) ≡ 0
-unfolding needed_around
-around_set_verdict x = ap needed_around (sym (s.rolls-SetVerdict x)) ∙ fold-roll-ResolvedStatement ℕ ℕ needed_statement_step needed_branch_step (o.SetVerdict x)
-
-around_alt : (bs : List ResolvedBranch) → needed_around (s.Alt bs None) ≡ max (greatest (map needed_around_branch bs)) 0
-unfolding needed_around needed_around_branch
-around_alt bs = ap needed_around (sym (s.rolls-Alt bs None)) ∙ fold-roll-ResolvedStatement ℕ ℕ needed_statement_step needed_branch_step (o.Alt bs None)
-
-around_alt_else : (bs : List ResolvedBranch) (e : List ResolvedStatement)
-    → needed_around (s.Alt bs (Some e)) ≡ max (greatest (map needed_around_branch bs)) (needed_around_all e)
-unfolding needed_around needed_around_branch
-around_alt_else bs e = ap needed_around (sym (s.rolls-Alt bs (Some e))) ∙ fold-roll-ResolvedStatement ℕ ℕ needed_statement_step needed_branch_step (o.Alt bs (Some e))
-
-pub around_for : (first bound : ℤ) (block : List ResolvedStatement) → needed_around (s.For first bound block) ≡ needed_around_all block - 1
-unfolding needed_around needed_around_branch
-around_for first bound block =
-    ap needed_around (sym (s.rolls-For first bound block)) ∙ fold-roll-ResolvedStatement ℕ ℕ needed_statement_step needed_branch_step (o.For first bound block)
-
-pub around_branch : (x : ResolvedBranch) → needed_around_branch x ≡ max (needed_by_wanted x.receiving.wanted) (needed_around_all x.block)
-unfolding needed_around needed_around_branch
-around_branch x = fold_out-ResolvedBranch ℕ ℕ needed_statement_step needed_branch_step x
-
 module _ (types : Types) (turns : List (List ℕ)) where
   mutual
+    unfolding needed
+
     pub value_closed : {u : Ty} {x : Value} {y : SendValue} → IsValue types turns u x y → needed y ≤ length turns
-    value_closed (d.int z h) = omega (arith, needed_int z)
-    value_closed (d.bool b) = omega (arith, needed_bool b)
-    value_closed (d.text cs h) = omega (arith, needed_text cs)
+    value_closed (d.int z h) = rw (← (w.rolls-Int z), fold-roll-SendValue) (omega arith)
+    value_closed (d.bool b) = rw (← (w.rolls-Bool b), fold-roll-SendValue) (omega arith)
+    value_closed (d.text cs h) = rw (← (w.rolls-Text cs), fold-roll-SendValue) (omega arith)
     value_closed (d.turn n k h) = omega (arith, needed_turn k, slice_get_within turns k n h.there)
     value_closed (d.elements u element vs ws f h) = omega (arith, needed_list ws, elements_closed h)
     value_closed (d.places u fields vs ws f h) = omega (arith, needed_record ws, fields_closed h)
@@ -141,16 +54,18 @@ module _ (types : Types) (turns : List (List ℕ)) where
     named_closed (d.one_name_more entries fs ws f j x y h there same one) = greatest_push needed ws y (length turns) (named_closed h) (value_closed one)
 
   mutual
+    unfolding needed needed_by_template
+
     pub template_closed : {u : Ty} {x : Template} {y : RecvTemplate} → IsTemplate types turns u x y → needed_by_template y ≤ length turns
-    template_closed (d.int_template z h) = omega (arith, needed_by_exact (w.Int z), needed_int z)
-    template_closed (d.bool_template b) = omega (arith, needed_by_exact (w.Bool b), needed_bool b)
-    template_closed (d.text_template cs h) = omega (arith, needed_by_exact (w.Text cs), needed_text cs)
-    template_closed (d.turn_template n k h) = omega (arith, needed_by_exact (w.Turn k), needed_turn k, slice_get_within turns k n h.there)
-    template_closed (d.any u) = omega (arith, needed_by_any)
+    template_closed (d.int_template z h) = rw needed_by_exact (value_closed (d.int z h))
+    template_closed (d.bool_template b) = rw needed_by_exact (value_closed (d.bool b))
+    template_closed (d.text_template cs h) = rw needed_by_exact (value_closed (d.text cs h))
+    template_closed (d.turn_template n k h) = rw needed_by_exact (value_closed (d.turn n k h))
+    template_closed (d.any u) = rw (← r.rolls-Any, fold-roll-RecvTemplate) (omega arith)
     template_closed (d.one_of u ts rs h) = omega (arith, needed_by_one_of rs, members_closed h)
     template_closed (d.none_of u ts rs h) = omega (arith, needed_by_none_of rs, members_closed h)
-    template_closed (d.range low high h) = omega (arith, needed_by_range low high)
-    template_closed (d.pattern cs) = omega (arith, needed_by_pattern (map d.part_of cs))
+    template_closed (d.range low high h) = rw (← (r.rolls-Range low high), fold-roll-RecvTemplate) (omega arith)
+    template_closed (d.pattern cs) = rw (← (r.rolls-Pattern (map d.part_of cs)), fold-roll-RecvTemplate) (omega arith)
     template_closed (d.element_templates u element ts rs f h) = omega (arith, needed_by_list rs, element_templates_closed h)
     template_closed (d.place_templates u fields ts rs f h) = omega (arith, needed_by_record rs, field_templates_closed h)
     template_closed (d.field_templates u fields ts rs f n h) = omega (arith, needed_by_record rs, named_templates_closed h)
@@ -167,7 +82,7 @@ module _ (types : Types) (turns : List (List ℕ)) where
         greatest_push needed_by_template rs y (length turns) (element_templates_closed h) (element_template_closed one)
 
     element_template_closed : {u : Ty} {x : Template} {y : RecvTemplate} → IsElementTemplate types turns u x y → needed_by_template y ≤ length turns
-    element_template_closed (d.many u) = omega (arith, needed_by_many)
+    element_template_closed (d.many u) = rw (← r.rolls-AnyOrNone, fold-roll-RecvTemplate) (omega arith)
     element_template_closed (d.single u x y one) = template_closed one
 
     field_templates_closed : {fs : List Field} {xs : List Template} {ys : List RecvTemplate} → AreFieldTemplates types turns fs xs ys
@@ -182,34 +97,33 @@ module _ (types : Types) (turns : List (List ℕ)) where
     named_templates_closed (d.one_name_template_more entries fs rs f j x y h there same one) =
         greatest_push needed_by_template rs y (length turns) (named_templates_closed h) (template_closed one)
 
-module _ (scope : Scope) (variables : Variables) where
+module _ (scope : Visible) (variables : Variables) where
   sent_closed : (turns : List (List ℕ)) (sendable : List Ty) {x : SentExpression} {y : Sent} → IsSent scope variables turns sendable x y
       → needed_by_sent y ≤ length turns
-  sent_closed turns sendable (b.written x m h l) = value_closed scope.types.now turns h.fits
+  sent_closed turns sendable (b.written x m h l) = value_closed scope.types turns h.fits
   sent_closed turns sendable (b.counter n k h l) = omega (arith, needed_turn k, slice_get_within turns k n h.there)
   sent_closed turns sendable (b.held n k u a h l) = omega arith
 
   pub wanted_closed : (turns : List (List ℕ)) (receivable : List Ty) {x : Option MessageTemplate} {y : RecvMsg} → IsWanted scope turns receivable x y
       → needed_by_wanted y ≤ length turns
   wanted_closed turns receivable b.every_message = omega arith
-  wanted_closed turns receivable (b.matching x u r f l h) = template_closed scope.types.now turns h
+  wanted_closed turns receivable (b.matching x u r f l h) = template_closed scope.types turns h
 
   mutual
+    unfolding needed_around needed_around_branch
+
     statement_closed : {turns : List (List ℕ)} {x : Action} {y : ResolvedStatement} → IsStatement scope variables turns x y → needed_around y ≤ length turns
-    statement_closed (b.send turns x y h) = omega (arith, around_send y, sent_closed turns _ h.sent)
-    statement_closed (b.receive turns x y h) = omega (arith, around_receive y, wanted_closed turns _ h.wants)
-    statement_closed (b.control turns x k port other h) = omega (arith, around_control k x.operation)
-    statement_closed (b.all_ports turns x other) = omega (arith, around_all_ports x)
-    statement_closed (b.set_verdict turns x y other h) = omega (arith, around_set_verdict y)
-    statement_closed (b.alt turns xs ys h) = omega (arith, around_alt ys, branches_closed h)
-    statement_closed (b.alt_else turns xs ys e otherwise h inner) = omega (arith, around_alt_else ys otherwise, branches_closed h, block_closed inner)
+    statement_closed (b.send turns x y h) = rw (← (s.rolls-Send y), fold-roll-ResolvedStatement) (sent_closed turns _ h.sent)
+    statement_closed (b.receive turns x y h) = rw (← (s.rolls-Receive y), fold-roll-ResolvedStatement) (wanted_closed turns _ h.wants)
+    statement_closed (b.control turns x k port other h) = rw (← (s.rolls-Control k x.operation), fold-roll-ResolvedStatement) (omega arith)
+    statement_closed (b.all_ports turns x other) = rw (← (s.rolls-AllPorts x), fold-roll-ResolvedStatement) (omega arith)
+    statement_closed (b.set_verdict turns x y other h) = rw (← (s.rolls-SetVerdict y), fold-roll-ResolvedStatement) (omega arith)
+    statement_closed (b.alt turns xs ys h) = rw (← (s.rolls-Alt ys None), fold-roll-ResolvedStatement) (omega (arith, branches_closed h))
+    statement_closed (b.alt_else turns xs ys e otherwise h inner) =
+        rw (← (s.rolls-Alt ys (Some otherwise)), fold-roll-ResolvedStatement) (omega (arith, branches_closed h, block_closed inner))
     statement_closed (b.counted turns x inside new h) =
-        omega (
-          arith,
-          around_for (out-Counted x).turns.first (out-Counted x).turns.bound inside,
-          block_closed h,
-          length_push turns (out-Counted x).turns.name,
-        )
+        rw (← (s.rolls-For (out-Counted x).turns.first (out-Counted x).turns.bound inside), fold-roll-ResolvedStatement)
+        (omega (arith, block_closed h, length_push turns (out-Counted x).turns.name))
 
     pub block_closed : {turns : List (List ℕ)} {xs : List StatementText} {ys : List ResolvedStatement} → IsBlock scope variables turns xs ys
         → needed_around_all ys ≤ length turns
@@ -217,7 +131,7 @@ module _ (scope : Scope) (variables : Variables) where
     block_closed (b.one_statement_more turns xs ys x y h one) = greatest_push needed_around ys y (length turns) (block_closed h) (statement_closed one)
 
     branch_closed : {turns : List (List ℕ)} {x : BranchText} {y : ResolvedBranch} → IsBranch scope variables turns x y → needed_around_branch y ≤ length turns
-    branch_closed (b.branch turns x y h inner) = omega (arith, around_branch y, wanted_closed turns _ h.wants, after_closed inner)
+    branch_closed (b.branch turns x y h inner) = rw fold_out-ResolvedBranch (omega (arith, wanted_closed turns _ h.wants, after_closed inner))
 
     after_closed : {turns : List (List ℕ)} {x : BranchBody} {ys : List ResolvedStatement} → IsAfter scope variables turns x ys → needed_around_all ys ≤ length turns
     after_closed (b.nothing turns) = omega arith

@@ -1,9 +1,8 @@
 -- A fault that is told as out of memory is out of memory.
 use Rattle.std.proofs.Common.{◌≡◌, refl}
 use Rattle.tp_common.specs.declared.refusal.Refusal.TheVariants as refusal
-use Rattle.tp_checks.specs.declared.fault.ModuleRule.{ModuleRule}
+use Rattle.tp_checks.specs.declared.fault.{ModuleRule.ModuleRule, ModuleFault.ModuleFault}
 use Rattle.tp_checks.specs.declared.fault.ModuleRule.TheVariants as module_rule
-use Rattle.tp_checks.specs.declared.fault.ModuleFault.{ModuleFault}
 use Rattle.tp_checks.specs.declared.fault.ModuleFault.TheVariants as module_fault
 use Rattle.tp_checks.specs.Told.{fault_refusal, rule_refusal}
 

@@ -1,10 +1,9 @@
 -- What a fault tells, handed on.
 use Rattle.std.proofs.Common.{◌≡◌, ◌≤◌, ◌↔◌, ℕ, inl, inr, List, Contains, length, Result, Err, IfErr, refl}
-use Rattle.std.specs.Result.{IsErrAnd, IsErrOf}
 use Rattle.std.proofs.lemmas.Result.{err_from_is_err_and}
-use Rattle.tp_checks.specs.declared.fault.ModuleRule.{ModuleRule}
+use Rattle.std.specs.Result.{IsErrAnd, IsErrOf}
+use Rattle.tp_checks.specs.declared.fault.{ModuleRule.ModuleRule, ModuleFault.ModuleFault}
 use Rattle.tp_checks.specs.declared.fault.ModuleRule.TheVariants as module_rule
-use Rattle.tp_checks.specs.declared.fault.ModuleFault.{ModuleFault}
 use Rattle.tp_checks.specs.declared.fault.ModuleFault.TheVariants as module_fault
 use Rattle.tp_checks.specs.declared.name_set.NameFault.{NameFault}
 use Rattle.tp_checks.specs.declared.name_set.NameFault.TheVariants as name_fault

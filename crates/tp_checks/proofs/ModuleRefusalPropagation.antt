@@ -1,16 +1,14 @@
 -- What a refused part says of the whole.
 use Rattle.std.proofs.Common.{◌≡◌, ℕ, ◌+◌, ◌<◌, ◌⊎◌, inl, inr, List, ◌∷◌, ◌++◌, [], All, arith, length, take, drop, get_or, map, sym, ap, ◌∙◌, subst, append_assoc, Result, IfErr}
-use Rattle.std.specs.List.{flat_map}
-use Rattle.std.specs.Result.{IsErrAnd}
 use Rattle.std.proofs.lemmas.List.{get_or-map, length-map, take-append-drop, map-append, map_push}
 use Rattle.std.proofs.lemmas.List.Concat.{flat_map-append}
+use Rattle.std.specs.{List.flat_map, Result.IsErrAnd}
 use Rattle.tp_checks.specs.declared.fault.ModuleFault.{ModuleFault}
 use Rattle.tp_checks.specs.declared.fault.ModuleFault.TheVariants as module_fault
 use Rattle.tp_checks.specs.declared.name_set.NameFault.{NameFault}
 use Rattle.tp_checks.specs.declared.name_set.NameFault.TheVariants as name_fault
 use Rattle.tp_checks.specs.Refused.{IsRefusedBy}
-use Rattle.tp_checks.proofs.ListPrefixGrowth.{flat_more, pushed}
-use Rattle.tp_checks.proofs.ModuleFaultPropagation.{handed}
+use Rattle.tp_checks.proofs.{ListPrefixGrowth.flat_more, ListPrefixGrowth.pushed, ModuleFaultPropagation.handed}
 
 -- what breaks a part of a rule breaks the rule
 pub breaks_part : (R P : Type 0) (f : ModuleFault) → (R → P) → IsRefusedBy P f → IsRefusedBy R f

@@ -1,16 +1,11 @@
 -- A name that can't be given, among all that are.
 use Rattle.std.proofs.Common.{◌≡◌, ℕ, ◌+◌, ◌<◌, List, [], ◌∷◌, ◌++◌, length, take, drop, get_or, map, refl, sym, ap, ◌∙◌, subst, append_assoc}
-use Rattle.std.proofs.lemmas.List.{map-append, take-append-drop}
-use Rattle.std.proofs.lemmas.List.Concat.{flat_map-append}
-use Rattle.tp_tree.specs.declared.tree.DeclaredName.{DeclaredName}
-use Rattle.tp_tree.specs.declared.tree.PortDeclaration.{PortDeclaration}
+use Rattle.std.proofs.{lemmas.List.map-append, lemmas.List.take-append-drop, lemmas.List.Concat.flat_map-append}
+use Rattle.tp_tree.specs.declared.tree.{DeclaredName.DeclaredName, PortDeclaration.PortDeclaration}
 use Rattle.tp_checks.specs.declared.fault.ModuleFault.{ModuleFault}
-use Rattle.tp_checks.specs.Refused.{Tells, TellsAt}
-use Rattle.tp_checks.specs.Tables.{IsNumbered}
+use Rattle.tp_checks.specs.{Refused.Tells, Refused.TellsAt, Tables.IsNumbered, Definitions.declared, Definitions.declared_ports}
 use Rattle.tp_checks.specs.BrokenNames.{DeclaringBreaks, NameBreaks, port_name_list}
-use Rattle.tp_checks.specs.Definitions.{declared, declared_ports}
-use Rattle.tp_checks.proofs.DistinctNamesInParts.{map_twice}
-use Rattle.tp_checks.proofs.ListPrefixGrowth.{pushed}
+use Rattle.tp_checks.proofs.{DistinctNamesInParts.map_twice, ListPrefixGrowth.pushed}
 use Rattle.tp_checks.proofs.RuleFaultPropagation.{told_from, told_on}
 
 -- what stands before and behind an item

@@ -2,25 +2,21 @@
 use Rattle.std.proofs.Common.{Contains, subst, ◌⊎◌, inl, inr, ◌≡◌, ℕ, ◌<◌, ◌≤◌, List, ◌++◌, Option, Some, None, option_map, slice_get, refl, sym, ap, ◌∙◌, arith}
 use Rattle.std.proofs.lemmas.Bool.{cases_lt}
 use Rattle.std.proofs.lemmas.Option.{same_Some, slice_get-get_or, slice_get_within, get_or_from_slice_get}
-use Rattle.tp_value.specs.declared.types.Ty.{Ty}
+use Rattle.tp_value.specs.declared.types.{Ty.Ty, Types.Types}
 use Rattle.tp_value.specs.declared.types.Ty.TheVariants as ty
-use Rattle.tp_value.specs.declared.types.Types.{Types}
 use Rattle.tp_value.specs.Types.{type_number}
 use Rattle.tp_config.specs.declared.port_type.PortType.{PortType}
-use Rattle.tp_config.specs.declared.port_type.CompType.{CompType}
 use Rattle.tp_tree.specs.declared.message.TypeName.{TypeName}
 use Rattle.tp_tree.specs.declared.message.TypeName.TheVariants as t
 use Rattle.tp_tree.specs.declared.tree.ComponentName.{ComponentName}
 use Rattle.tp_tree.specs.declared.tree.ComponentName.TheVariants as c
 use Rattle.tp_play.specs.declared.body.VariableType.{VariableType}
 use Rattle.tp_play.specs.declared.body.VariableType.TheVariants as kind
-use Rattle.tp_checks.specs.declared.scope.Scope.{Scope}
 use Rattle.tp_checks.specs.declared.scope.Variables.{Variables}
-use Rattle.tp_checks.specs.Named.{IsPlace, IsAbsent}
+use Rattle.tp_checks.specs.{Named.IsPlace, Named.IsAbsent, Bodies.IsVariableType}
+use Rattle.tp_checks.specs.Scoping.{IsPortNamed, IsReference, IsType, IsVariable, Visible}
 use Rattle.tp_checks.specs.Bodies as b
-use Rattle.tp_checks.specs.Bodies.{IsVariableType}
 use Rattle.tp_checks.specs.Scoping as d
-use Rattle.tp_checks.specs.Scoping.{IsPortNamed, IsReference, IsType, IsVariable, declared_port_types}
 
 pub place_fixed : (names : List (List ℕ)) (name : List ℕ) (j k : ℕ) → IsPlace names name j → IsPlace names name k → j ≡ k
 place_fixed names name j k p q = by (cases_lt j k) (cases_lt k j) where
@@ -29,9 +25,9 @@ place_fixed names name j k p q = by (cases_lt j k) (cases_lt k j) where
   by (inr le) (inl gt) = absurd (p.first k gt q.there)
   by (inr le) (inr ge) = omega arith
 
-pub port_fixed : (ports : CompType) (name : List ℕ) (j k : ℕ) (p q : PortType) → IsPortNamed ports name j p → IsPortNamed ports name k q → p ≡ q
-port_fixed ports name j k p q a b =
-    same_Some p q (sym a.typed ∙ ap (slice_get (declared_port_types ports)) (place_fixed _ name j k a.named b.named) ∙ b.typed)
+pub port_fixed : (scope : Visible) (name : List ℕ) (j k : ℕ) (p q : PortType) → IsPortNamed scope name j p → IsPortNamed scope name k q → p ≡ q
+port_fixed scope name j k p q a b =
+    same_Some p q (sym a.typed ∙ ap (slice_get scope.ports.types) (place_fixed _ name j k a.named b.named) ∙ b.typed)
 
 pub variable_fixed : (vs : Variables) (name : List ℕ) (j k : ℕ) (h g : VariableType) → IsVariable vs name j h → IsVariable vs name k g → h ≡ g
 variable_fixed vs name j k h g a b =
@@ -71,12 +67,12 @@ holds : Option Ty → VariableType
 holds (Some u) = kind.Message u
 holds None = kind.Component
 
-held_as : {scope : Scope} {x : TypeName} {h : VariableType} → IsVariableType scope x h → h ≡ holds (stands scope.types.now x)
+held_as : {scope : Visible} {x : TypeName} {h : VariableType} → IsVariableType scope x h → h ≡ holds (stands scope.types x)
 unfolding holds stands
-held_as {scope} (b.message x u h) = ap holds (sym (type_stands scope.types.now h))
+held_as {scope} (b.message x u h) = ap holds (sym (type_stands scope.types h))
 held_as (b.component n k none p) = ap (λ o. holds (option_map ty.Named o)) (sym none)
 
-pub held_fixed : (scope : Scope) (x : TypeName) (h g : VariableType) → IsVariableType scope x h → IsVariableType scope x g → h ≡ g
+pub held_fixed : (scope : Visible) (x : TypeName) (h g : VariableType) → IsVariableType scope x h → IsVariableType scope x g → h ≡ g
 held_fixed scope x h g a c = held_as a ∙ sym (held_as c)
 
 -- what is looked up stands nowhere else
@@ -90,13 +86,13 @@ pub contained_at : (names : List (List ℕ)) (name : List ℕ) (k : ℕ) → sli
 contained_at names name k there = (k, slice_get_within names k name there, get_or_from_slice_get names k name name there)
 
 -- a reference that isn't there
-module _ (scope : Scope) (variables : Variables) (turns : List (List ℕ)) where
+module _ (scope : Visible) (variables : Variables) (turns : List (List ℕ)) where
   Stands : ComponentName → Type 0
   Stands c.Mtc = Unit {0}
   Stands c.SelfComponent = Unit {0}
   Stands (c.Named n) =
       IsAbsent turns n × IsAbsent variables.names n
-      × ((k : ℕ) × IsPlace (scope.parameters.now ++ scope.component_variables.now) n k)
+      × ((k : ℕ) × IsPlace (scope.parameters ++ scope.component_variables) n k)
 
   reference_stands : {x : ComponentName} {k : ℕ} → IsReference scope variables turns x k → Stands x
   unfolding Stands
@@ -106,6 +102,6 @@ module _ (scope : Scope) (variables : Variables) (turns : List (List ℕ)) where
 
   pub reference_named : (x : ComponentName) (n : List ℕ) (k : ℕ) → x ≡ c.Named n → IsReference scope variables turns x k
       → IsAbsent turns n × IsAbsent variables.names n
-      × ((j : ℕ) × IsPlace (scope.parameters.now ++ scope.component_variables.now) n j)
+      × ((j : ℕ) × IsPlace (scope.parameters ++ scope.component_variables) n j)
   unfolding Stands
   reference_named x n k e h = subst Stands e (reference_stands h)

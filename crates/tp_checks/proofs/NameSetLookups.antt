@@ -1,12 +1,9 @@
 -- Names, and the set that holds them.
 use Rattle.std.proofs.Common.{◌≡◌, ◌≢◌, ℕ, ◌+◌, ◌≤◌, Bool, true, false, cond, List, [], ◌∷◌, ◌++◌, Some, None, map, length, get_or, slice_get, option_map, nat_lt, Contains, refl, ap, sym, ◌∙◌, arith, add-one, true≢false, ◌||◌}
-use Rattle.std.proofs.lemmas.List.{get_or_default, map_push}
-use Rattle.std.specs.List.{position_or_len, list_any}
-use Rattle.std.specs.Str.{bytes_eq}
-use Rattle.std.proofs.lemmas.List.Quantifiers.{position-Some, all_pairs_push}
-use Rattle.std.proofs.lemmas.List.Sums.{fails_before_first}
+use Rattle.std.proofs.{lemmas.List.get_or_default, lemmas.List.map_push, lemmas.List.Sums.fails_before_first}
+use Rattle.std.proofs.{lemmas.List.Quantifiers.position-Some, lemmas.List.Quantifiers.all_pairs_push, lemmas.Slice.Eq.bytes_eq-Decides}
 use Rattle.std.proofs.lemmas.Option.{slice_get-get_or, slice_get-map, same_Some}
-use Rattle.std.proofs.lemmas.Slice.Eq.{bytes_eq-Decides}
+use Rattle.std.specs.{List.position_or_len, List.list_any, Str.bytes_eq}
 use Rattle.indexmap.specs.IndexSet.{insert_key}
 use Rattle.tp_checks.specs.Tables.{AreDistinct, place_of_name}
 

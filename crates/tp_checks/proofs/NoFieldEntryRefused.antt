@@ -4,12 +4,8 @@ use Rattle.std.proofs.lemmas.Bool.{cases_lt}
 use Rattle.std.proofs.lemmas.List.{get_or-set_other, get_or-set_same, length-set, length-map}
 use Rattle.std.proofs.lemmas.Option.{slice_get-get_or, slice_get_within, get_or_from_slice_get}
 use Rattle.tp_value.specs.declared.types.Field.{Field}
-use Rattle.tp_checks.specs.Named.{IsAbsent}
-use Rattle.tp_checks.specs.Tables.{AreDistinct}
-use Rattle.tp_checks.specs.Placing.{HaveEntries, field_names}
-use Rattle.tp_checks.proofs.PlacedEntriesGrowth.{push_cases}
-use Rattle.tp_checks.proofs.DistinctNamesByCount.{none_other}
-use Rattle.tp_checks.proofs.EachFieldHasEntry.{names_differ}
+use Rattle.tp_checks.specs.{Named.IsAbsent, Tables.AreDistinct, Placing.HaveEntries, Placing.field_names}
+use Rattle.tp_checks.proofs.{PlacedEntriesGrowth.push_cases, DistinctNamesByCount.none_other, EachFieldHasEntry.names_differ}
 use Rattle.tp_checks.proofs.UniqueZipsAndPlaces.{once}
 
 -- the place of each entry is taken, and so is that of one more

@@ -2,36 +2,26 @@
 use Rattle.std.proofs.Common.{inl, inr, ◌≡◌, ℕ, List, Option, Contains, refl, sym, subst}
 use Rattle.tp_value.specs.declared.types.Ty.{Ty}
 use Rattle.tp_config.specs.declared.port_type.PortType.{PortType}
-use Rattle.tp_tree.specs.declared.message.Message.{Message}
-use Rattle.tp_tree.specs.declared.message.MessageTemplate.{MessageTemplate}
-use Rattle.tp_tree.specs.declared.tree.ComponentName.{ComponentName}
-use Rattle.tp_tree.specs.declared.tree.ComponentName.TheVariants as c
-use Rattle.tp_tree.specs.declared.tree.SentExpression.{SentExpression}
-use Rattle.tp_tree.specs.declared.tree.Receivers.{Receivers}
-use Rattle.tp_tree.specs.declared.tree.Send.{Send}
+use Rattle.tp_tree.specs.declared.message.{Message.Message, MessageTemplate.MessageTemplate}
+use Rattle.tp_tree.specs.declared.tree.{ComponentName.ComponentName, SentExpression.SentExpression, Receivers.Receivers, Send.Send}
 use Rattle.tp_tree.specs.declared.tree.Receive.{Receive}
-use Rattle.tp_play.specs.declared.body.SendMsg.{SendMsg}
-use Rattle.tp_play.specs.declared.body.SendOperation.{SendOperation}
-use Rattle.tp_play.specs.declared.body.Receiving.{Receiving}
-use Rattle.tp_play.specs.declared.body.RecvMsg.{RecvMsg}
-use Rattle.tp_play.specs.declared.body.RecvMsg.TheVariants as wanted
+use Rattle.tp_tree.specs.declared.tree.ComponentName.TheVariants as c
+use Rattle.tp_play.specs.declared.body.{SendMsg.SendMsg, SendOperation.SendOperation, Receiving.Receiving, RecvMsg.RecvMsg}
 use Rattle.tp_play.specs.declared.body.VariableType.{VariableType}
+use Rattle.tp_play.specs.declared.body.RecvMsg.TheVariants as wanted
 use Rattle.tp_play.specs.declared.body.VariableType.TheVariants as kind
 use Rattle.tp_checks.specs.declared.fault.ModuleRule.{ModuleRule}
-use Rattle.tp_checks.specs.Named.{IsAbsent}
-use Rattle.tp_checks.specs.declared.scope.Scope.{Scope}
-use Rattle.tp_checks.specs.declared.scope.Variables.{Variables}
-use Rattle.tp_checks.specs.Scoping.{IsPortNamed, IsSoundScope, IsVariable, declared_port_names, receivable_types, sendable_types}
-use Rattle.tp_checks.specs.Messages.{IsMessage, IsTemplate, IsValue}
+use Rattle.tp_checks.specs.{Named.IsAbsent, Messages.IsMessage, Messages.IsTemplate, Messages.IsValue}
+use Rattle.tp_checks.specs.Scoping.{IsPortNamed, IsSoundScope, IsVariable, receivable_types, sendable_types, Visible}
 use Rattle.tp_checks.specs.Bodies.{IsReceive, IsSend, IsSent, IsWanted}
-use Rattle.tp_checks.specs.BrokenOperations as b
 use Rattle.tp_checks.specs.BrokenOperations.{FromBreaks, MessageBreaks, NamesNoComponent, NamesNoMessage, NamesNoVariable, ReceiveBreaks, ReceiverBreaks, SendBreaks, SenderTargetBreaks, SentBreaks, ValueTargetBreaks, WantedBreaks}
+use Rattle.tp_checks.specs.declared.scope.Variables.{Variables}
+use Rattle.tp_checks.specs.BrokenOperations as b
 use Rattle.tp_checks.proofs.NameLookupsAreUnique.{absent_contained, absent_place, contained_at, message_fixed, port_fixed, reference_named, type_fixed, variable_fixed}
 use Rattle.tp_checks.proofs.OperationInversions.{FromMeans, HasComponent, HasMessage, ReceiverMeans, SenderMeans, SentMeans, ValueMeans, WantedMeans, from_means, receiver_means, sender_means, sent_means, target_moves, value_means, wanted_means}
-use Rattle.tp_checks.proofs.ValueExclusions.{value_excludes}
-use Rattle.tp_checks.proofs.TemplateExclusions.{template_excludes}
+use Rattle.tp_checks.proofs.{ValueExclusions.value_excludes, TemplateExclusions.template_excludes}
 
-module _ (scope : Scope) (variables : Variables) (turns : List (List ℕ)) where
+module _ (scope : Visible) (variables : Variables) (turns : List (List ℕ)) where
   no_variable_excludes : {name : List ℕ} {r : ModuleRule} → NamesNoVariable scope variables turns name r → (k : ℕ) (held : VariableType)
       → IsAbsent turns name → IsVariable variables name k held → ⊥
   no_variable_excludes {name} (b.turn j p) k held absent v = absent_place turns name j absent p
@@ -50,21 +40,21 @@ module _ (scope : Scope) (variables : Variables) (turns : List (List ℕ)) where
       let same = variable_fixed variables name j h.0 (kind.Message u) kind.Component v h.2 in absurd (cc)
 
   -- what is wanted at the port of this name
-  wants : (x : Receive) (y : Receiving) (k : ℕ) (port : PortType) → IsPortNamed scope.component_type.now x.port k port
+  wants : (x : Receive) (y : Receiving) (k : ℕ) (port : PortType) → IsPortNamed scope x.port k port
       → IsReceive scope variables turns x y → IsWanted scope turns (receivable_types scope.behaviour port) x.template y.wanted
   wants x y k port known h =
       subst (λ p. IsWanted scope turns (receivable_types scope.behaviour p) x.template y.wanted)
-      (port_fixed scope.component_type.now x.port y.port k h.port port h.port_known known) h.wants
+      (port_fixed scope x.port y.port k h.port port h.port_known known) h.wants
 
   module _ (sound : IsSoundScope scope) where
-    message_excludes : {sendable : List Ty} {x : Message} {r : ModuleRule} → MessageBreaks scope variables turns sendable x r
-        → (m : SendMsg) × IsMessage scope.types.now turns x m × Contains sendable m.ty → ⊥
+    message_excludes : {sendable : List Ty} {x : Message} {r : ModuleRule} → MessageBreaks scope.types variables turns sendable x r
+        → (m : SendMsg) × IsMessage scope.types turns x m × Contains sendable m.ty → ⊥
     message_excludes (b.no_type none) h = none h.0.ty h.1.type_known
     message_excludes {sendable} {x} (b.not_sendable u is unlisted) h =
-        unlisted (subst (Contains sendable) (type_fixed scope.types.now x.type_name h.0.ty u h.1.type_known is) h.2)
+        unlisted (subst (Contains sendable) (type_fixed scope.types x.type_name h.0.ty u h.1.type_known is) h.2)
     message_excludes {x} (b.value u r is listed broken) h =
-        value_excludes scope.types.now variables turns sound.own_names broken h.0.value
-        (subst (λ v. IsValue scope.types.now turns v x.value h.0.value) (type_fixed scope.types.now x.type_name h.0.ty u h.1.type_known is) h.1.fits)
+        value_excludes scope.types variables turns sound.own_names broken h.0.value
+        (subst (λ v. IsValue scope.types turns v x.value h.0.value) (type_fixed scope.types x.type_name h.0.ty u h.1.type_known is) h.1.fits)
 
     sent_excludes : {sendable : List Ty} {x : SentExpression} {r : ModuleRule} → SentBreaks scope variables turns sendable x r
         → SentMeans scope variables turns sendable x → ⊥
@@ -90,21 +80,21 @@ module _ (scope : Scope) (variables : Variables) (turns : List (List ℕ)) where
         no_variable p.1 (contained_at variables.names n p.0 p.2.named.there)
 
     pub send_excludes : {x : Send} {r : ModuleRule} → SendBreaks scope variables turns x r → (y : SendOperation) → IsSend scope variables turns x y → ⊥
-    send_excludes {x} (b.no_port none) y h = absent_place (declared_port_names scope.component_type.now) x.port y.port none h.port_known.named
+    send_excludes {x} (b.no_port none) y h = absent_place scope.ports.names x.port y.port none h.port_known.named
     send_excludes {x} (b.sent k port r known broken) y h =
-        let same = port_fixed scope.component_type.now x.port y.port k h.port port h.port_known known in
+        let same = port_fixed scope x.port y.port k h.port port h.port_known known in
         sent_excludes broken (sent_means scope variables turns (sendable_types scope.behaviour port)
         (subst (λ p. IsSent scope variables turns (sendable_types scope.behaviour p) x.sent y.sent) same h.sent))
     send_excludes (b.receiver k port z r known stands broken) y h = receiver_excludes broken (receiver_means scope variables turns h.receiver)
 
-    wanted_excludes : {receivable : List Ty} {x : Option MessageTemplate} {r : ModuleRule} → WantedBreaks scope variables turns receivable x r
+    wanted_excludes : {receivable : List Ty} {x : Option MessageTemplate} {r : ModuleRule} → WantedBreaks scope.types variables turns receivable x r
         → WantedMeans scope variables turns receivable x → ⊥
     wanted_excludes (b.no_such_type x none) h = none h.0 h.2
     wanted_excludes {receivable} (b.not_receivable x u is unlisted) h =
-        unlisted (subst (Contains receivable) (type_fixed scope.types.now x.type_name h.0 u h.2 is) h.3)
+        unlisted (subst (Contains receivable) (type_fixed scope.types x.type_name h.0 u h.2 is) h.3)
     wanted_excludes (b.template x u r is listed broken) h =
-        template_excludes scope.types.now variables turns sound.own_names broken h.1
-        (subst (λ v. IsTemplate scope.types.now turns v x.template h.1) (type_fixed scope.types.now x.type_name h.0 u h.2 is) h.4)
+        template_excludes scope.types variables turns sound.own_names broken h.1
+        (subst (λ v. IsTemplate scope.types turns v x.template h.1) (type_fixed scope.types x.type_name h.0 u h.2 is) h.4)
 
     from_excludes : {x : Option ComponentName} {r : ModuleRule} → FromBreaks scope variables turns x r → FromMeans scope variables turns x → ⊥
     from_excludes (b.from_variable n there) h =
@@ -124,7 +114,7 @@ module _ (scope : Scope) (variables : Variables) (turns : List (List ℕ)) where
 
     pub receive_excludes : {x : Receive} {r : ModuleRule} → ReceiveBreaks scope variables turns x r → (y : Receiving) → IsReceive scope variables turns x y
         → ⊥
-    receive_excludes {x} (b.at_no_port none) y h = absent_place (declared_port_names scope.component_type.now) x.port y.port none h.port_known.named
+    receive_excludes {x} (b.at_no_port none) y h = absent_place scope.ports.names x.port y.port none h.port_known.named
     receive_excludes {x} (b.wanted k port r known broken) y h =
         wanted_excludes broken (wanted_means scope variables turns (receivable_types scope.behaviour port) (wants x y k port known h))
     receive_excludes (b.from k port m r known stands broken) y h = from_excludes broken (from_means scope variables turns h.from_known)

@@ -3,32 +3,24 @@ use Rattle.std.proofs.Common.{◌⊎◌, inl, inr, ◌≡◌, ℕ, List, Option,
 use Rattle.tp_value.specs.declared.types.Ty.{Ty}
 use Rattle.tp_value.specs.declared.types.Ty.TheVariants as ty
 use Rattle.tp_value.specs.declared.verdict.Verdict.{Verdict}
-use Rattle.tp_tree.specs.declared.tree.ComponentName.{ComponentName}
+use Rattle.tp_tree.specs.declared.tree.{ComponentName.ComponentName, SentExpression.SentExpression, Receivers.Receivers}
+use Rattle.tp_tree.specs.declared.tree.VerdictName.{VerdictName}
 use Rattle.tp_tree.specs.declared.tree.ComponentName.TheVariants as c
 use Rattle.tp_tree.specs.declared.message.MessageTemplate.{MessageTemplate}
-use Rattle.tp_tree.specs.declared.tree.SentExpression.{SentExpression}
 use Rattle.tp_tree.specs.declared.tree.SentExpression.TheVariants as sent
-use Rattle.tp_tree.specs.declared.tree.Receivers.{Receivers}
 use Rattle.tp_tree.specs.declared.tree.Receivers.TheVariants as d
-use Rattle.tp_tree.specs.declared.tree.VerdictName.{VerdictName}
 use Rattle.tp_tree.specs.declared.tree.VerdictName.TheVariants as named_verdict
-use Rattle.tp_play.specs.declared.body.SendMsg.{SendMsg}
-use Rattle.tp_play.specs.declared.body.RecvTemplate.{RecvTemplate}
-use Rattle.tp_play.specs.declared.body.RecvMsg.{RecvMsg}
+use Rattle.tp_play.specs.declared.body.{SendMsg.SendMsg, RecvTemplate.RecvTemplate, RecvMsg.RecvMsg, Sent.Sent, Receiver.Receiver}
 use Rattle.tp_play.specs.declared.body.RecvMsg.TheVariants as wanted
-use Rattle.tp_play.specs.declared.body.Sent.{Sent}
-use Rattle.tp_play.specs.declared.body.Receiver.{Receiver}
 use Rattle.tp_play.specs.declared.body.VariableType.TheVariants as kind
-use Rattle.tp_checks.specs.declared.scope.Scope.{Scope}
 use Rattle.tp_checks.specs.declared.scope.Variables.{Variables}
-use Rattle.tp_checks.specs.Named.{IsPlace, IsAbsent}
-use Rattle.tp_checks.specs.Scoping.{IsType, IsVariable, IsReference}
+use Rattle.tp_checks.specs.{Named.IsPlace, Named.IsAbsent, Scoping.IsType, Scoping.IsVariable, Scoping.IsReference, Scoping.Visible}
 use Rattle.tp_checks.specs.Messages.{IsMessage, IsTemplate}
+use Rattle.tp_checks.specs.Bodies.{IsSent, IsReceiver, IsWanted, IsFrom, IsValueTarget, IsSenderTarget, IsVerdict}
 use Rattle.tp_checks.specs.Bodies as b
-use Rattle.tp_checks.specs.Bodies.{IsSend, IsReceive, IsSent, IsReceiver, IsWanted, IsFrom, IsValueTarget, IsSenderTarget, IsVerdict}
 use Rattle.tp_checks.proofs.NameLookupsAreUnique.{type_fixed}
 
-module _ (scope : Scope) (variables : Variables) (turns : List (List ℕ)) where
+module _ (scope : Visible) (variables : Variables) (turns : List (List ℕ)) where
   -- what a variable of messages holds
   abbrev pub HasMessage : List ℕ → Type 0
   HasMessage name = (k : ℕ) × (u : Ty) × IsAbsent turns name × IsVariable variables name k (kind.Message u)
@@ -39,7 +31,7 @@ module _ (scope : Scope) (variables : Variables) (turns : List (List ℕ)) where
 
   module _ (sendable : List Ty) where
     abbrev pub SentMeans : SentExpression → Type 0
-    SentMeans (sent.Message x) = (m : SendMsg) × IsMessage scope.types.now turns x m × Contains sendable m.ty
+    SentMeans (sent.Message x) = (m : SendMsg) × IsMessage scope.types turns x m × Contains sendable m.ty
     SentMeans (sent.Variable n) =
         ((k : ℕ) × IsPlace turns n k × Contains sendable ty.Integer)
         ⊎ ((k : ℕ) × (u : Ty) × IsAbsent turns n × IsVariable variables n k (kind.Message u) × Contains sendable u)
@@ -73,7 +65,7 @@ module _ (scope : Scope) (variables : Variables) (turns : List (List ℕ)) where
     abbrev pub WantedMeans : Option MessageTemplate → Type 0
     WantedMeans None = Unit {0}
     WantedMeans (Some x) =
-        (u : Ty) × (r : RecvTemplate) × IsType scope.types.now x.type_name u × Contains receivable u × IsTemplate scope.types.now turns u x.template r
+        (u : Ty) × (r : RecvTemplate) × IsType scope.types x.type_name u × Contains receivable u × IsTemplate scope.types turns u x.template r
 
     pub wanted_means : {x : Option MessageTemplate} {y : RecvMsg} → IsWanted scope turns receivable x y → WantedMeans x
     wanted_means b.every_message = tt
@@ -111,20 +103,20 @@ verdict_means b.inconc = tt
 verdict_means b.fail = tt
 
 -- what is wanted has one type, so the variable behind `value` serves whatever it stands for
-module _ (scope : Scope) (variables : Variables) (turns : List (List ℕ)) (receivable : List Ty) where
+module _ (scope : Visible) (variables : Variables) (turns : List (List ℕ)) (receivable : List Ty) where
   same_type : {x : Option MessageTemplate} {y : RecvMsg} → IsWanted scope turns receivable x y → (t : MessageTemplate) (u : Ty) → x ≡ Some t
-      → IsType scope.types.now t.type_name u → (r : RecvTemplate) × (y ≡ wanted.Of u r)
+      → IsType scope.types t.type_name u → (r : RecvTemplate) × (y ≡ wanted.Of u r)
   same_type b.every_message t u e f = absurd (cc)
   same_type (b.matching x v r g l h) t u e f =
       let same : x ≡ t = cc in
-      (r, ap (λ w. wanted.Of w r) (type_fixed scope.types.now t.type_name v u (subst (λ (z : MessageTemplate). IsType scope.types.now z.type_name v) same g) f))
+      (r, ap (λ w. wanted.Of w r) (type_fixed scope.types t.type_name v u (subst (λ (z : MessageTemplate). IsType scope.types z.type_name v) same g) f))
 
   same_wanted : {x : Option MessageTemplate} {m : RecvMsg} → IsWanted scope turns receivable x m → (n : RecvMsg) → IsWanted scope turns receivable x n
       → (u : Ty) (r : RecvTemplate) → m ≡ wanted.Of u r → (s : RecvTemplate) × (n ≡ wanted.Of u s)
   same_wanted b.every_message n h u r e = absurd (cc)
   same_wanted (b.matching x v s f l g) n h u r e =
       let same : v ≡ u = cc in
-      same_type h x u refl (subst (IsType scope.types.now x.type_name) same f)
+      same_type h x u refl (subst (IsType scope.types x.type_name) same f)
 
   moves : {m : RecvMsg} {t : Option (List ℕ)} {k : Option ℕ} → IsValueTarget variables turns m t k → (n : RecvMsg)
       → ((u : Ty) (r : RecvTemplate) → m ≡ wanted.Of u r → (s : RecvTemplate) × (n ≡ wanted.Of u s)) → IsValueTarget variables turns n t k

@@ -1,30 +1,21 @@
 -- A `connect` or a `map` that can't be made.
 use Rattle.std.proofs.Common.{◌≡◌, ℕ, ◌+◌, ◌<◌, Option, List, ◌++◌, length, take, drop, get_or, map, refl, sym, ap, ◌∙◌, subst}
+use Rattle.std.proofs.{lemmas.List.map-append, lemmas.List.take-append-drop, lemmas.List.Elements.filter_map-append}
 use Rattle.std.specs.Option.{option_map, option_to_list}
-use Rattle.std.proofs.lemmas.List.{map-append, take-append-drop}
-use Rattle.std.proofs.lemmas.List.Elements.{filter_map-append}
-use Rattle.tp_tree.specs.declared.tree.PairEnd.{PairEnd}
-use Rattle.tp_tree.specs.declared.tree.SetupStatement.{SetupStatement}
+use Rattle.tp_tree.specs.declared.tree.{PairEnd.PairEnd, SetupStatement.SetupStatement}
 use Rattle.tp_config.specs.declared.port_type.PortRef.{PortRef}
 use Rattle.tp_config.specs.declared.connecting.ConnectFault.{ConnectFault}
 use Rattle.tp_config.specs.declared.mapping.MapFault.{MapFault}
-use Rattle.tp_config.specs.Setup.{Setup}
-use Rattle.tp_config.specs.Causes.{ConnectRefused, MapRefused}
-use Rattle.tp_config.specs.Faults.{connect_refusal, map_refusal}
+use Rattle.tp_config.specs.{Setup.Setup, Causes.ConnectRefused, Causes.MapRefused, Faults.connect_refusal, Faults.map_refusal}
 use Rattle.tp_checks.specs.declared.fault.ModuleFault.{ModuleFault}
 use Rattle.tp_checks.specs.declared.fault.ModuleFault.TheVariants as module_fault
-use Rattle.tp_checks.specs.Refused.{Tells, TellsAt}
-use Rattle.tp_checks.specs.Tables.{IsNumbered}
-use Rattle.tp_checks.specs.Told.{IsAtLine, fault_refusal}
+use Rattle.tp_checks.specs.{Refused.Tells, Refused.TellsAt, Tables.IsNumbered, Told.IsAtLine, Told.fault_refusal}
 use Rattle.tp_checks.specs.BrokenSetup.{ConnectBreaks, MapBreaks, PairBreaks, PairsBreak, connect_refused, map_refused}
 use Rattle.tp_checks.specs.Components.{creation_of, creations, variable_name, variables}
 use Rattle.tp_checks.specs.Configuring.{IsPortOfEnd, Makes}
-use Rattle.tp_checks.proofs.SetupStatementGrowth.{variables_more}
-use Rattle.tp_checks.proofs.DistinctNamesInParts.{numbered_first}
-use Rattle.tp_checks.proofs.NameFaultsTold.{split_here}
-use Rattle.tp_checks.proofs.RuleFaultPropagation.{told_from}
+use Rattle.tp_checks.proofs.{SetupStatementGrowth.variables_more, DistinctNamesInParts.numbered_first, NameFaultsTold.split_here}
+use Rattle.tp_checks.proofs.{RuleFaultPropagation.told_from, ModuleFaultPropagation.really_broken}
 use Rattle.tp_checks.specs.BrokenSetup as b
-use Rattle.tp_checks.proofs.ModuleFaultPropagation.{really_broken}
 
 module _ (s : Setup) (names : List (List ℕ)) (system : Option ℕ) (x y : PairEnd) (p q : PortRef) (first : IsPortOfEnd s names system x p)
     (second : IsPortOfEnd s names system y q) (line : ℕ) where

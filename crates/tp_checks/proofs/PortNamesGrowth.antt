@@ -1,8 +1,7 @@
 -- The names of ports, one after the other.
 use Rattle.std.proofs.Common.{◌⊎◌, inl, inr, ◌≡◌, ℕ, ◌+◌, ◌<◌, ◌≤◌, List, [], ◌∷◌, map, Some, position, slice_get, refl, ap, sym, ◌∙◌, arith, subst}
+use Rattle.std.proofs.{lemmas.Bool.cases_lt, lemmas.Option.same_Some}
 use Rattle.std.specs.Str.{bytes_eq}
-use Rattle.std.proofs.lemmas.Bool.{cases_lt}
-use Rattle.std.proofs.lemmas.Option.{same_Some}
 use Rattle.tp_checks.specs.Named.{IsAbsent}
 use Rattle.tp_config.proofs.ComponentAndPortLookups.{position_map}
 

@@ -1,20 +1,13 @@
 -- Port types that were made.
-use Rattle.std.proofs.Common.{◌≡◌, ℕ, List, Option, None, Some, refl, map, slice_get, option_map, sym, ap, ◌∙◌}
+use Rattle.std.proofs.Common.{◌≡◌, ℕ, List, Option, None, Some, refl, map, slice_get, option_map, sym, ap, ◌∙◌, [], ◌∷◌, ◌++◌}
+use Rattle.std.proofs.{lemmas.Option.slice_get-map, lemmas.Option.same_Some, lemmas.List.map-append}
 use Rattle.std.specs.List.{AllZip}
-use Rattle.std.proofs.lemmas.Option.{slice_get-map, same_Some}
-use Rattle.tp_tree.specs.declared.tree.PortType.{PortType}
+use Rattle.tp_tree.specs.declared.tree.{PortType.PortType, DeclaredName.DeclaredName, PortDeclaration.PortDeclaration}
 use Rattle.tp_config.specs.declared.port_type.PortType.{PortType as PortLists}
-use Rattle.std.proofs.Common.{[], ◌∷◌, ◌++◌}
-use Rattle.std.proofs.lemmas.List.{map-append}
-use Rattle.tp_tree.specs.declared.tree.DeclaredName.{DeclaredName}
-use Rattle.tp_tree.specs.declared.tree.PortDeclaration.{PortDeclaration}
 use Rattle.tp_config.specs.Setup.{PortDecl}
-use Rattle.tp_checks.specs.Definitions.{declared, declared_ports}
-use Rattle.tp_checks.specs.Resolved.{IsPortDecl, port_list}
-use Rattle.tp_checks.specs.Tables.{place_of_name}
-use Rattle.tp_checks.specs.Resolved.{IsMade, IsMadeOf}
-use Rattle.tp_checks.proofs.NameSetLookups.{place_there}
-use Rattle.tp_checks.proofs.ListPrefixGrowth.{contains_at, zip_at, zip_beside}
+use Rattle.tp_checks.specs.{Definitions.declared, Definitions.declared_ports, Tables.place_of_name}
+use Rattle.tp_checks.specs.Resolved.{IsPortDecl, port_list, IsMade, IsMadeOf}
+use Rattle.tp_checks.proofs.{NameSetLookups.place_there, ListPrefixGrowth.contains_at, ListPrefixGrowth.zip_at, ListPrefixGrowth.zip_beside}
 
 pub made_of : (types names : List (List ℕ)) (ports : List PortType) (made : List PortLists) (name : List ℕ) (k : ℕ) (found : PortLists)
     → names ≡ map (λ (p : PortType). p.name) ports → AllZip (IsMade types) ports made → Some k ≡ place_of_name names name
@@ -52,9 +45,8 @@ first_of_list (p ∷ xs) =
 names_zipped : (types : List (List ℕ)) (ports : List PortType) (xs : List (List ℕ × List ℕ)) (made : List PortDecl) → AllZip (IsPortDecl types ports) xs made
     → map (λ (p : PortDecl). p.name) made ≡ map (λ (x : List ℕ × List ℕ). x.0) xs
 names_zipped types ports [] [] each = refl
-names_zipped types ports [] (t ∷ made) each = absurd each
-names_zipped types ports (x ∷ xs) [] each = absurd each
 names_zipped types ports (x ∷ xs) (t ∷ made) each = rw (each.0.name, names_zipped types ports xs made each.1)
+names_zipped _ _ _ _ each = absurd each
 
 -- the ports that were made have the names that are declared
 pub ports_named : (types : List (List ℕ)) (ports : List PortType) (xs : List PortDeclaration) (made : List PortDecl)

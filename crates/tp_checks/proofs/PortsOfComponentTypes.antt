@@ -2,15 +2,12 @@
 use Rattle.std.proofs.Common.{List, None, Option, Some, ap, arith, get_or, length, map, option_map, refl, slice_get, subst, sym, ℕ, ◌<◌, ◌∙◌, ◌≡◌}
 use Rattle.std.proofs.lemmas.List.{get_or-map, length-map}
 use Rattle.std.proofs.lemmas.Option.{same_Some, slice_get-get_or, slice_get-map}
-use Rattle.tp_tree.specs.declared.tree.ComponentType.{ComponentType}
-use Rattle.tp_tree.specs.declared.tree.TestCase.{TestCase}
+use Rattle.tp_tree.specs.declared.tree.{ComponentType.ComponentType, TestCase.TestCase}
 use Rattle.tp_config.specs.Setup.{PortDecl}
-use Rattle.tp_checks.specs.Tables.{AreDistinct, IsNumbered}
-use Rattle.tp_checks.specs.Definitions.{declared_ports}
+use Rattle.tp_checks.specs.{Tables.AreDistinct, Tables.IsNumbered, Definitions.declared_ports}
 use Rattle.tp_checks.specs.Components.{HasPorts, HasSoundVariables, creations}
 use Rattle.tp_checks.specs.Configuring.{AreOwnPorts, CanSetUp, CanSetUpBeside, HaveOwnPorts, HavePorts, most_variables, names_of_ports}
-use Rattle.tp_checks.proofs.StartLookups.{all_got}
-use Rattle.tp_checks.proofs.UniqueZipsAndPlaces.{same_named}
+use Rattle.tp_checks.proofs.{StartLookups.all_got, UniqueZipsAndPlaces.same_named}
 
 -- component types whose ports have names of their own have these ports
 pub have_ports : (types : List ComponentType) (names : List (List ℕ)) (made : List (List PortDecl))

@@ -1,28 +1,19 @@
 -- A setup statement names its ports, and what is refused of two ports.
 use Rattle.std.proofs.Common.{◌≡◌, ℕ, ◌<◌, ◌≤◌, ◌⊎◌, inl, inr, List, [], Option, None, Some, Contains, length, get_or, slice_get, sym, ap, ◌∙◌, subst, arith}
+use Rattle.std.proofs.{lemmas.Bool.cases_lt, Math.ListN.get_or-eq_default, lemmas.Option.same_Some}
 use Rattle.std.specs.Option.{option_map_or}
-use Rattle.std.proofs.lemmas.Bool.{cases_lt}
-use Rattle.std.proofs.Math.ListN.{get_or-eq_default}
-use Rattle.std.proofs.lemmas.Option.{same_Some}
 use Rattle.tp_checks.specs.declared.fault.ModuleFault.{ModuleFault}
 use Rattle.tp_tree.specs.declared.tree.PairEnd.{PairEnd}
-use Rattle.tp_config.specs.declared.port_type.CompId.{CompId}
-use Rattle.tp_config.specs.declared.port_type.PortRef.{PortRef}
+use Rattle.tp_config.specs.declared.port_type.{CompId.CompId, PortRef.PortRef}
 use Rattle.tp_config.specs.declared.connecting.ConnectFault.{ConnectFault}
 use Rattle.tp_config.specs.declared.connecting.ConnectFault.TheVariants as connect_fault
 use Rattle.tp_config.specs.declared.mapping.MapFault.{MapFault}
 use Rattle.tp_config.specs.declared.mapping.MapFault.TheVariants as map_fault
-use Rattle.tp_config.specs.Setup.{Setup, PortDecl, Member, port_names, ports_at}
-use Rattle.tp_config.specs.Allowed.{CanConnect, CanMap}
-use Rattle.tp_config.specs.Causes.{ConnectRefused, MapRefused}
-use Rattle.tp_config.specs.Faults.{connect_refusal, map_refusal}
-use Rattle.tp_checks.specs.Refused.{IsRefusedBy}
-use Rattle.tp_checks.specs.Tables.{AreDistinct}
-use Rattle.tp_checks.specs.Told.{fault_refusal}
-use Rattle.tp_checks.proofs.MemoryRefusals.{told_memory}
+use Rattle.tp_config.specs.{Setup.Setup, Setup.PortDecl, Setup.Member, Setup.port_names, Setup.ports_at, Allowed.CanConnect, Allowed.CanMap}
+use Rattle.tp_config.specs.{Causes.ConnectRefused, Causes.MapRefused, Faults.connect_refusal, Faults.map_refusal}
+use Rattle.tp_checks.specs.{Refused.IsRefusedBy, Tables.AreDistinct, Told.fault_refusal}
 use Rattle.tp_checks.specs.Configuring.{Connects, HaveOwnPorts, IsPortOfEnd, Maps, end_component_number, names_of_ports}
-use Rattle.tp_checks.proofs.ModuleRefusalPropagation.{breaks_part}
-use Rattle.tp_checks.proofs.ListPrefixGrowth.{contains_at}
+use Rattle.tp_checks.proofs.{MemoryRefusals.told_memory, ModuleRefusalPropagation.breaks_part, ListPrefixGrowth.contains_at}
 use Rattle.tp_checks.proofs.UniqueZipsAndPlaces.{once}
 
 no_names : AreDistinct []

@@ -1,18 +1,12 @@
 -- What is told over the sorted names is told of the module.
 use Rattle.std.proofs.Common.{◌≡◌, ℕ, Some, List, map, sym, subst, Result, Ok, Err, IfOk}
-use Rattle.std.proofs.lemmas.List.Elements.{All-contains}
-use Rattle.std.proofs.lemmas.Option.{same_Some}
-use Rattle.tp_tree.specs.declared.tree.Defined.{Defined}
+use Rattle.std.proofs.{lemmas.List.Elements.All-contains, lemmas.Option.same_Some}
+use Rattle.tp_tree.specs.declared.tree.{Defined.Defined, Definition.Definition, Module.Module, TestCase.TestCase}
 use Rattle.tp_tree.specs.declared.tree.Defined.TheVariants as defined
-use Rattle.tp_tree.specs.declared.tree.Definition.{Definition}
-use Rattle.tp_tree.specs.declared.tree.Module.{Module}
-use Rattle.tp_tree.specs.declared.tree.TestCase.{TestCase}
 use Rattle.tp_config.specs.Shape.{ports_of}
-use Rattle.tp_checks.specs.declared.fault.ModuleRule.{ModuleRule}
-use Rattle.tp_checks.specs.declared.fault.ModuleFault.{ModuleFault}
+use Rattle.tp_checks.specs.declared.fault.{ModuleRule.ModuleRule, ModuleFault.ModuleFault}
 use Rattle.tp_checks.specs.declared.definitions.Definitions.{Definitions}
-use Rattle.tp_checks.specs.Broken.{ThirdPassBreaks, ThirdPassOfBreaks}
-use Rattle.tp_checks.specs.Defining.{IsDefined}
+use Rattle.tp_checks.specs.{Broken.ThirdPassBreaks, Broken.ThirdPassOfBreaks, Defining.IsDefined}
 use Rattle.tp_checks.specs.Definitions.{BeginsAmong, case_of, component_type_names, component_types, functions, port_type_names, type_names}
 use Rattle.tp_checks.specs.Rules.{AreComponentTypesKnown, IsSound}
 use Rattle.tp_checks.specs.Sorted.{HasSoundDefinitions, component_types_in, functions_in}
@@ -25,12 +19,8 @@ begins_kept (Err f) xs case line b same here = tt
 
 own_case : (names : List (List ℕ)) (x : Defined) (case : TestCase) → case_of x ≡ Some case → AreComponentTypesKnown names x
     → AreComponentTypesKnown names (defined.TestCase case)
-own_case names (defined.Record r) case e h = absurd (cc)
-own_case names (defined.List l) case e h = absurd (cc)
-own_case names (defined.Port p) case e h = absurd (cc)
-own_case names (defined.Component c) case e h = absurd (cc)
-own_case names (defined.Function f) case e h = absurd (cc)
 own_case names (defined.TestCase c) case e h = subst (λ (t : TestCase). AreComponentTypesKnown names (defined.TestCase t)) (same_Some c case e) h
+own_case names _ case e h = absurd (cc)
 
 -- the component types that the test case names are known
 pub case_known : (m : Module) (names : List (List ℕ)) (case : TestCase) (line : ℕ) → names ≡ component_type_names m

@@ -1,8 +1,7 @@
 -- What a `?` tells, and a fault of a part as one of the whole.
 use Rattle.std.proofs.Common.{inl, inr, ◌≡◌, ℕ, Result, IfErr, refl, sym, subst}
 use Rattle.std.specs.Result.{IsErrAnd}
-use Rattle.tp_checks.specs.declared.fault.ModuleRule.{ModuleRule}
-use Rattle.tp_checks.specs.declared.fault.ModuleFault.{ModuleFault}
+use Rattle.tp_checks.specs.declared.fault.{ModuleRule.ModuleRule, ModuleFault.ModuleFault}
 use Rattle.tp_checks.specs.declared.fault.ModuleFault.TheVariants as module_fault
 use Rattle.tp_checks.specs.Refused.{IsRefusedBy, Tells, TellsAt}
 use Rattle.tp_checks.proofs.ModuleFaultPropagation.{handed}

@@ -1,29 +1,20 @@
 -- What the rules on setup say of the components that are added one after the other.
 use Rattle.std.proofs.Common.{◌≡◌, ◌≤◌, ℕ, Bool, true, false, if◌then◌else◌, Option, None, Some, option_map, codes, List, [], ◌∷◌, ◌++◌, All, Contains, is_some, length, map, slice_get, refl, sym, ap, ◌∙◌, subst, arith, append-nil, true≢false}
-use Rattle.std.specs.Option.{option_to_list}
-use Rattle.std.specs.List.{AllZip}
 use Rattle.std.proofs.lemmas.List.{length-append, length-map, map-append}
 use Rattle.std.proofs.lemmas.List.Elements.{All-cons, All-map, All-nil, Contains-append_left, filter_map-append}
 use Rattle.std.proofs.lemmas.Option.{same_Some, slice_get-get_or}
-use Rattle.tp_tree.specs.declared.tree.ComponentType.{ComponentType}
-use Rattle.tp_tree.specs.declared.tree.Creation.{Creation}
-use Rattle.tp_tree.specs.declared.tree.SetupStatement.{SetupStatement}
-use Rattle.tp_tree.specs.declared.tree.TestCase.{TestCase}
+use Rattle.std.specs.{Option.option_to_list, List.AllZip}
+use Rattle.tp_tree.specs.declared.tree.{ComponentType.ComponentType, Creation.Creation, SetupStatement.SetupStatement, TestCase.TestCase}
 use Rattle.tp_config.specs.declared.port_type.PortRef.{PortRef}
 use Rattle.tp_config.specs.declared.port_type.Role.TheVariants as role
 use Rattle.tp_config.specs.Setup.{Setup, PortDecl, Member, empty_setup, is_system_role, names_of_components}
-use Rattle.tp_config.specs.Shape.{member}
-use Rattle.tp_config.specs.Causes.{HasSystem}
+use Rattle.tp_config.specs.{Shape.member, Causes.HasSystem}
 use Rattle.tp_checks.specs.Tables.{AreDistinct, IsNumbered}
-use Rattle.tp_checks.proofs.NameSetLookups.{place_known}
 use Rattle.tp_checks.specs.Components.{Adds, AddsAll, CanAdd, CanAddAll, Declared, HasSoundVariables, IsMember, component_list, HasStopped, created, creation_of, creations, interface, main_component, variable_name, variables}
 use Rattle.tp_checks.specs.Configuring.{CanSetUp, CanSetUpBeside, HasFirst, HavePorts, IsConfigBySetup, Makes, interface_number, most_variables}
-use Rattle.tp_checks.proofs.AddableComponents.{names_created}
-use Rattle.tp_checks.proofs.StartLookups.{all_got}
-use Rattle.tp_checks.proofs.DistinctNamesInParts.{distinct_first}
-use Rattle.tp_checks.proofs.CreatedComponentGrowth.{adds_more, adds_none}
+use Rattle.tp_checks.proofs.{NameSetLookups.place_known, AddableComponents.names_created, StartLookups.all_got, ListPrefixGrowth.zip_at}
+use Rattle.tp_checks.proofs.{DistinctNamesInParts.distinct_first, CreatedComponentGrowth.adds_more, CreatedComponentGrowth.adds_none}
 use Rattle.tp_checks.proofs.SetupStatementOutcomes.{adds_append}
-use Rattle.tp_checks.proofs.ListPrefixGrowth.{zip_at}
 use Rattle.tp_checks.proofs.UniqueZipsAndPlaces.{not_before, zip_middle, zip_same}
 
 pub most_small : (case : TestCase) → most_variables case ≤ 63
@@ -32,11 +23,11 @@ most_small case = by (is_some case.system) where
   by true = omega arith
   by false = omega arith
 
--- the variables of a test case that can be set up
-pub numbered_variables : (names ports : List (List ℕ)) (case : TestCase)
-    → HasSoundVariables names ports (most_variables case) (creations case.setups) → IsNumbered (variables case.setups)
-numbered_variables names ports case sound = record {
-  few = omega (arith, sound.few, most_small case, length-map (creations case.setups) variable_name);
+-- the variables of setup statements that obey the rules
+pub numbered_variables : (names ports : List (List ℕ)) (case : TestCase) (xs : List SetupStatement)
+    → HasSoundVariables names ports (most_variables case) (creations xs) → IsNumbered (variables xs)
+numbered_variables names ports case xs sound = record {
+  few = omega (arith, sound.few, most_small case, length-map (creations xs) variable_name);
   distinct = sound.distinct;
 }
 
@@ -70,8 +61,14 @@ no_system names xs ms each zipped (m, (k, below, is), system) =
 abbrev face : List ℕ → Declared
 face s = record { name = codes "system"; type_name = s; role = role.System }
 
-whole : List (List PortDecl) → List Member → List (PortRef × PortRef) → List (PortRef × PortRef) → Setup
+abbrev whole : List (List PortDecl) → List Member → List (PortRef × PortRef) → List (PortRef × PortRef) → Setup
 whole types components connected mapped = record { types = types; components = components; connected = connected; mapped = mapped }
+
+-- configurations with the same parts are the same
+pub same_setup : (s t : Setup) → s.types ≡ t.types → s.components ≡ t.components → s.connected ≡ t.connected → s.mapped ≡ t.mapped → s ≡ t
+same_setup s t types components connected mapped =
+    ap (λ l. whole l s.components s.connected s.mapped) types ∙ ap (λ l. whole t.types l s.connected s.mapped) components
+    ∙ ap (λ l. whole t.types t.components l s.mapped) connected ∙ ap (whole t.types t.components t.connected) mapped
 
 module _ (names : List (List ℕ)) (made : List (List PortDecl)) (case : TestCase) (config : Setup) (r : IsConfigBySetup names made case config) where
   -- `mtc` can be added
@@ -157,13 +154,10 @@ module _ (names : List (List ℕ)) (made : List (List PortDecl)) (case : TestCas
 
   -- a configuration with the components that are declared is that of the rule
   pub start_same : (s : Setup) → AddsAll names (component_list case) (empty_setup made) s → r.start ≡ s
-  unfolding whole
   start_same s added =
-      ap (λ t. whole t r.start.components r.start.connected r.start.mapped) (r.types_are ∙ sym added.types_stay)
-      ∙ ap (λ m. whole s.types m r.start.connected r.start.mapped)
+      same_setup r.start s (r.types_are ∙ sym added.types_stay)
       (zip_same (IsMember names) (member_one names) (component_list case) r.start.components s.components r.components_are (added.components [] tt))
-      ∙ ap (λ l. whole s.types s.components l r.start.mapped) (r.not_connected ∙ sym added.connected_stay)
-      ∙ ap (λ l. whole s.types s.components s.connected l) (r.not_mapped ∙ sym added.mapped_stay)
+      (r.not_connected ∙ sym added.connected_stay) (r.not_mapped ∙ sym added.mapped_stay)
 
   -- so the setup statements can be done in it
   pub all_made : (s : Setup) (system : Option ℕ) → AddsAll names (component_list case) (empty_setup made) s → system ≡ interface_number case
@@ -234,5 +228,5 @@ module _ (names : List (List ℕ)) (types : List ComponentType) (made : List (Li
             (subst (λ z. AddsAll names (component_list case) z s) empty
             (adds_append names (main_component case ∷ map created (creations case.setups)) (interface case) old mid s inner last))
             (number_is names case old mid system (ap (λ (z : Setup). z.components) empty) inner number),
-        numbered_variables names r.variables.ports case r.variables.sound,
+        numbered_variables names r.variables.ports case case.setups r.variables.sound,
       )

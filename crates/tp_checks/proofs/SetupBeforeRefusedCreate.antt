@@ -1,25 +1,19 @@
 -- Where making the components stopped, what stands before can be connected if all that the text says can be.
 use Rattle.std.proofs.Common.{◌≡◌, ◌≤◌, ℕ, zero, suc, ◌+◌, ◌<◌, Option, None, Some, option_map, List, [], ◌∷◌, ◌++◌, length, map, slice_get, refl, sym, ap, ◌∙◌, subst, arith, append_assoc, take}
-use Rattle.std.specs.List.{AllZip}
 use Rattle.std.proofs.lemmas.List.{length-append, length-map, map-append, take_at}
-use Rattle.std.proofs.lemmas.List.Elements.{filter_map-append}
-use Rattle.std.proofs.lemmas.Option.{same_Some, slice_get_within}
+use Rattle.std.proofs.{lemmas.List.Elements.filter_map-append, lemmas.Option.same_Some, lemmas.Option.slice_get_within}
 use Rattle.std.proofs.lemmas.Slice.Zip.{AllZip-long}
-use Rattle.tp_tree.specs.declared.tree.EndComponent.{EndComponent}
+use Rattle.std.specs.List.{AllZip}
+use Rattle.tp_tree.specs.declared.tree.{EndComponent.EndComponent, SetupStatement.SetupStatement, TestCase.TestCase}
 use Rattle.tp_tree.specs.declared.tree.EndComponent.TheVariants as end_component
-use Rattle.tp_tree.specs.declared.tree.SetupStatement.{SetupStatement}
-use Rattle.tp_tree.specs.declared.tree.TestCase.{TestCase}
 use Rattle.tp_config.specs.Setup.{Setup, PortDecl, Member, empty_setup}
 use Rattle.tp_checks.specs.Tables.{IsNumbered, place_of_name}
-use Rattle.tp_checks.proofs.NameSetLookups.{place_there}
 use Rattle.tp_checks.specs.Components.{AddsAll, Declared, IsMember, component_list, created, creation_of, creations, interface, main_component, variable_name, variables}
 use Rattle.tp_checks.specs.Configuring.{CanSetUpBeside, HasFirst, IsConfigBySetup, Makes, end_component_number, interface_number}
-use Rattle.tp_checks.proofs.UniqueConfigurations.{makes_first}
-use Rattle.tp_checks.proofs.DistinctNamesInParts.{numbered_first}
+use Rattle.tp_checks.proofs.{NameSetLookups.place_there, UniqueConfigurations.makes_first, DistinctNamesInParts.numbered_first}
 use Rattle.tp_checks.proofs.RulesOfAddedComponents.{member_one, names_split, numbered_variables}
 use Rattle.tp_checks.proofs.SetupWithFewerComponents.{makes_there, seen, seen_is}
-use Rattle.tp_checks.proofs.ListPrefixGrowth.{zip_append}
-use Rattle.tp_checks.proofs.UniqueZipsAndPlaces.{zip_same, zip_split}
+use Rattle.tp_checks.proofs.{ListPrefixGrowth.zip_append, UniqueZipsAndPlaces.zip_same, UniqueZipsAndPlaces.zip_split}
 
 abbrev behind : List Member → ℕ → ℕ
 behind [] i = i
@@ -156,5 +150,5 @@ before_can names ports case before first s system has last number r =
     ap variables has.all ∙ ap (map variable_name) (filter_map-append creation_of before has.rest)
     ∙ map-append variable_name (creations before) (creations has.rest) in (
       makes_before names first.types case r.config r.is_set_up before has.rest has.all first s system has.added last number,
-      numbered_first (variables before) (variables has.rest) (subst IsNumbered all (numbered_variables names ports case r.sound)),
+      numbered_first (variables before) (variables has.rest) (subst IsNumbered all (numbered_variables names ports case case.setups r.sound)),
     )

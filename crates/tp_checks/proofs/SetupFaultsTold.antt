@@ -1,26 +1,19 @@
 -- The first fault of the setup statements, told of the test case.
 use Rattle.std.proofs.Common.{◌≡◌, ◌⊎◌, inl, inr, ℕ, ◌+◌, Bool, true, false, if◌then◌else◌, Option, List, [], ◌∷◌, ◌++◌, Contains, length, map, codes, is_some, refl, sym, ap, ◌∙◌, subst, arith}
-use Rattle.std.specs.Option.{option_map}
 use Rattle.std.proofs.lemmas.List.{length-map, map-append}
 use Rattle.std.proofs.lemmas.List.Elements.{Contains-append_cases, Contains-append_left, Contains-append_right, Contains-push_cases, filter_map-append}
-use Rattle.tp_tree.specs.declared.tree.ComponentType.{ComponentType}
+use Rattle.std.specs.Option.{option_map}
+use Rattle.tp_tree.specs.declared.tree.{ComponentType.ComponentType, SetupStatement.SetupStatement, TestCase.TestCase}
 use Rattle.tp_tree.specs.declared.tree.Defined.TheVariants as defined
-use Rattle.tp_tree.specs.declared.tree.SetupStatement.{SetupStatement}
-use Rattle.tp_tree.specs.declared.tree.TestCase.{TestCase}
 use Rattle.tp_config.specs.Setup.{Setup, PortDecl, Member, empty_setup, names_of_components}
-use Rattle.tp_checks.specs.declared.fault.ModuleRule.{ModuleRule}
-use Rattle.tp_checks.specs.declared.fault.ModuleFault.{ModuleFault}
-use Rattle.tp_checks.specs.Refused.{Tells}
-use Rattle.tp_checks.specs.Tables.{IsNumbered}
+use Rattle.tp_checks.specs.declared.fault.{ModuleRule.ModuleRule, ModuleFault.ModuleFault}
+use Rattle.tp_checks.specs.{Refused.Tells, Configuring.HavePorts, Configuring.Makes, Configuring.most_variables, Definitions.declared_ports}
 use Rattle.tp_checks.specs.Additions.{AwaitsInterface, HasRoomForVariables, InterfaceBreaks, StopsCreating, interface_named}
 use Rattle.tp_checks.specs.BrokenSetup.{CarriesOut, CaseSetupBreaks, CreationBreaks, PairBreaks, PairsBreak, SetupBreaks, StartsWith, a_pair, a_var, interface_behind, interface_taken}
 use Rattle.tp_checks.specs.Components.{AddsAll, CanAdd, HasPorts, HasSoundVariables, created, creation_of, creations, interface, main_component, variable_name, variables}
-use Rattle.tp_checks.specs.Configuring.{HavePorts, Makes, most_variables}
 use Rattle.tp_checks.specs.Rules.{AreComponentTypesKnown}
-use Rattle.tp_checks.specs.Definitions.{declared_ports}
-use Rattle.tp_checks.proofs.AddableComponents.{names_created}
+use Rattle.tp_checks.proofs.{AddableComponents.names_created, RuleFaultPropagation.told_from, RuleFaultPropagation.told_on}
 use Rattle.tp_checks.proofs.RulesOfAddedComponents.{most_small, no_system, tests}
-use Rattle.tp_checks.proofs.RuleFaultPropagation.{told_from, told_on}
 
 abbrev most_of : Bool → ℕ
 most_of b = if b then 62 else 63
@@ -61,13 +54,6 @@ pub ports_there : (types : List ComponentType) (names : List (List ℕ)) (name :
 ports_there types names name named known =
     let r = named_one (λ (c : ComponentType). c.name) types name (subst (λ l. Contains l name) named known) in
     (declared_ports r.0.ports, record { component = r.0; there = r.1; named = r.2; ports_are = refl })
-
-pub small_variables : (names ports : List (List ℕ)) (case : TestCase) (xs : List SetupStatement)
-    → HasSoundVariables names ports (most_variables case) (creations xs) → IsNumbered (variables xs)
-small_variables names ports case xs sound = record {
-  few = omega (arith, sound.few, most_small case, length-map (creations xs) variable_name);
-  distinct = sound.distinct;
-}
 
 -- there is room for the components of a test case behind `mtc`
 pub room_first : (names : List (List ℕ)) (case : TestCase) (types : List (List PortDecl)) (s : Setup) (most : ℕ) → HavePorts names s.types

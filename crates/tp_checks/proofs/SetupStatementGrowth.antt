@@ -2,8 +2,7 @@
 use Rattle.std.proofs.Common.{◌≡◌, ℕ, ◌+◌, ◌<◌, List, ◌++◌, Option, None, Some, length, take, get_or, map, sym, ap, ◌∙◌, subst, refl}
 use Rattle.std.proofs.lemmas.List.{map-append}
 use Rattle.std.specs.Option.{option_map, option_to_list}
-use Rattle.tp_tree.specs.declared.tree.Creation.{Creation}
-use Rattle.tp_tree.specs.declared.tree.SetupStatement.{SetupStatement}
+use Rattle.tp_tree.specs.declared.tree.{Creation.Creation, SetupStatement.SetupStatement}
 use Rattle.tp_config.specs.Setup.{Setup}
 use Rattle.tp_checks.specs.Components.{creation_of, creations, variable_name, variables}
 use Rattle.tp_checks.specs.Configuring.{IsStep, Makes, one_more}

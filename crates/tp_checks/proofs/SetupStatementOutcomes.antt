@@ -1,15 +1,11 @@
 -- The configuration that the setup statements make.
 use Rattle.std.proofs.Common.{◌≡◌, ℕ, ◌+◌, List, [], ◌∷◌, ◌++◌, Option, length, map, sym, ap, ◌∙◌, subst, arith, append_assoc}
-use Rattle.std.specs.Option.{option_map}
-use Rattle.std.specs.List.{AllZip}
-use Rattle.std.proofs.lemmas.List.{length-map, map-append}
-use Rattle.std.proofs.lemmas.Slice.Zip.{AllZip-long}
-use Rattle.tp_tree.specs.declared.tree.SetupStatement.{SetupStatement}
-use Rattle.tp_tree.specs.declared.tree.TestCase.{TestCase}
+use Rattle.std.proofs.{lemmas.List.length-map, lemmas.List.map-append, lemmas.Slice.Zip.AllZip-long}
+use Rattle.std.specs.{Option.option_map, List.AllZip}
+use Rattle.tp_tree.specs.declared.tree.{SetupStatement.SetupStatement, TestCase.TestCase}
 use Rattle.tp_config.specs.Setup.{Setup, PortDecl, empty_setup, names_of_components}
-use Rattle.tp_checks.specs.Tables.{AreDistinct}
+use Rattle.tp_checks.specs.{Tables.AreDistinct, Configuring.IsConfigBySetup, Configuring.Makes}
 use Rattle.tp_checks.specs.Components.{Adds, AddsAll, Declared, IsMember, created, creations, interface, main_component}
-use Rattle.tp_checks.specs.Configuring.{IsConfigBySetup, Makes}
 use Rattle.tp_checks.proofs.CreatedComponentGrowth.{adds_more, adds_none}
 
 pub adds_append : (types : List (List ℕ)) (xs ys : List Declared) (old mid new : Setup) → AddsAll types xs old mid → AddsAll types ys mid new

@@ -1,32 +1,22 @@
 -- Fewer components: what can be connected in a configuration can be where components that have no pair are left out.
 use Rattle.std.proofs.Common.{◌≡◌, ◌≤◌, ℕ, Bool, true, false, cond, List, [], ◌∷◌, ◌++◌, Option, None, Some, All, Contains, length, get_or, map, option_map, slice_get, refl, sym, ap, ◌∙◌, subst, arith}
-use Rattle.std.specs.Prelude.{IsSome}
-use Rattle.std.specs.Bool.{Decides}
-use Rattle.std.specs.List.{cons_option}
-use Rattle.std.specs.Option.{option_map_or}
 use Rattle.std.proofs.lemmas.List.{get_or-map, length-append, length-map, map_push}
 use Rattle.std.proofs.lemmas.List.Elements.{filter_map-append}
-use Rattle.tp_tree.specs.declared.tree.EndComponent.{EndComponent}
-use Rattle.tp_tree.specs.declared.tree.PairEnd.{PairEnd}
-use Rattle.tp_tree.specs.declared.tree.SetupAction.{SetupAction}
+use Rattle.std.specs.{Prelude.IsSome, Bool.Decides, List.cons_option, Option.option_map_or}
+use Rattle.tp_tree.specs.declared.tree.{EndComponent.EndComponent, PairEnd.PairEnd, SetupAction.SetupAction, SetupStatement.SetupStatement}
 use Rattle.tp_tree.specs.declared.tree.SetupAction.TheVariants as setup_action
-use Rattle.tp_tree.specs.declared.tree.SetupStatement.{SetupStatement}
 use Rattle.tp_value.specs.declared.types.Ty.{Ty}
-use Rattle.tp_config.specs.declared.port_type.CompId.{CompId}
-use Rattle.tp_config.specs.declared.port_type.PortRef.{PortRef}
+use Rattle.tp_config.specs.declared.port_type.{CompId.CompId, PortRef.PortRef}
 use Rattle.tp_config.specs.Setup.{Setup, PortDecl, Member, connecting, decl_at, ins, is_system, is_system_member, mapping, outs, ports_at}
 use Rattle.tp_config.specs.Allowed.{Allowed, CanConnect, CanMap, MapDirected, MayConnect, MayMap}
 use Rattle.tp_config.specs.Pairs.{partner, partners, same_port}
-use Rattle.tp_config.proofs.CreateTestsDecideCauses.{port_decides}
+use Rattle.tp_config.proofs.{CreateTestsDecideCauses.port_decides, RouteLaws.map_contains}
 use Rattle.tp_checks.specs.Components.{creation_of, creations, variable_name, variables}
 use Rattle.tp_checks.specs.Configuring.{IsPortOfEnd, IsStep, Makes, end_component_number, nothing, one_more}
-use Rattle.tp_config.proofs.RouteLaws.{map_contains}
+use Rattle.tp_checks.proofs.RulesOfAddedComponents.{same_setup}
 
 abbrev port_at : ℕ → ℕ → PortRef
 port_at i j = record { comp = record { 0 = i }; port = j }
-
-abbrev whole : List (List PortDecl) → List Member → List (PortRef × PortRef) → List (PortRef × PortRef) → Setup
-whole types components connected mapped = record { types = types; components = components; connected = connected; mapped = mapped }
 
 -- two tests of facts that follow from each other
 same_test : (b c : Bool) (P Q : Type 0) → Decides b P → Decides c Q → (P → Q) → (Q → P) → b ≡ c
@@ -150,10 +140,7 @@ module _ (more : List Member) (number : ℕ → ℕ) (apart : (i j : ℕ) → nu
   pub seen_is : (start s : Setup) → start.types ≡ s.types → start.components ≡ more → start.connected ≡ [] → s.connected ≡ [] → start.mapped ≡ []
       → s.mapped ≡ [] → start ≡ seen s
   seen_is start s types components none bare unmapped left =
-      ap (λ t. whole t start.components start.connected start.mapped) types
-      ∙ ap (λ m. whole s.types m start.connected start.mapped) components
-      ∙ ap (λ l. whole s.types more l start.mapped) (none ∙ ap (map both) (sym bare))
-      ∙ ap (λ l. whole s.types more (map both s.connected) l) (unmapped ∙ ap (map both) (sym left))
+      same_setup start (seen s) types components (none ∙ ap (map both) (sym bare)) (unmapped ∙ ap (map both) (sym left))
 
   connecting_there : (s : Setup) (p q : PortRef) → seen (connecting s p q) ≡ connecting (seen s) (at p) (at q)
   connecting_there s p q = ap (λ l. with_pairs s l (map both s.mapped)) (map_push both s.connected (p, q))

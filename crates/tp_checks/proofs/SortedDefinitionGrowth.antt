@@ -1,11 +1,9 @@
 -- One step of a loop that sorts definitions.
 use Rattle.std.proofs.Common.{◌≡◌, ℕ, ◌+◌, ◌<◌, List, [], ◌∷◌, ◌++◌, Option, None, Some, length, take, get_or, map, sym, ap, ◌∙◌}
-use Rattle.std.specs.Option.{option_to_list}
 use Rattle.std.proofs.lemmas.List.{map_push, append-nil}
-use Rattle.tp_tree.specs.declared.tree.Definition.{Definition}
-use Rattle.tp_tree.specs.declared.tree.Defined.{Defined}
-use Rattle.tp_checks.specs.Definitions.{of_kind}
-use Rattle.tp_checks.specs.Sorted.{AreOfKind}
+use Rattle.std.specs.Option.{option_to_list}
+use Rattle.tp_tree.specs.declared.tree.{Definition.Definition, Defined.Defined}
+use Rattle.tp_checks.specs.{Definitions.of_kind, Sorted.AreOfKind}
 use Rattle.tp_checks.proofs.ListPrefixGrowth.{kept_more}
 
 module _ {T : Type 0} (kind : Defined → Option T) (name : T → List ℕ) (xs : List Definition) (i : ℕ) (x : Definition) (lt : i < length xs)

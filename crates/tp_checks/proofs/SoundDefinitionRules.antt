@@ -1,19 +1,11 @@
 -- A definition that obeys the rules.
 use Rattle.std.proofs.Common.{◌≡◌, ◌≤◌, inl, inr, arith, subst, ℕ, true, List, [], Option, Some, All, Contains, IfSome, is_some, length}
 use Rattle.std.specs.List.{list_all}
-use Rattle.tp_tree.specs.declared.tree.Definition.{Definition}
-use Rattle.tp_tree.specs.declared.tree.Defined.{Defined}
+use Rattle.tp_tree.specs.declared.tree.{Definition.Definition, Defined.Defined, RecordType.RecordType, ListType.ListType, PortType.PortType}
+use Rattle.tp_tree.specs.declared.tree.{ComponentType.ComponentType, Function.Function, TestCase.TestCase}
 use Rattle.tp_tree.specs.declared.tree.Defined.TheVariants as d
-use Rattle.tp_tree.specs.declared.tree.RecordType.{RecordType}
-use Rattle.tp_tree.specs.declared.tree.ListType.{ListType}
-use Rattle.tp_tree.specs.declared.tree.PortType.{PortType}
-use Rattle.tp_tree.specs.declared.tree.ComponentType.{ComponentType}
-use Rattle.tp_tree.specs.declared.tree.Function.{Function}
-use Rattle.tp_tree.specs.declared.tree.TestCase.{TestCase}
 use Rattle.tp_checks.specs.declared.fault.ModuleFault.{ModuleFault}
-use Rattle.tp_checks.specs.Tables.{place_of_name}
-use Rattle.tp_checks.specs.Definitions.{declared_ports}
-use Rattle.tp_checks.specs.Resolved.{ty_of}
+use Rattle.tp_checks.specs.{Tables.place_of_name, Definitions.declared_ports, Resolved.ty_of}
 use Rattle.tp_checks.specs.Rules.{ArePortTypesKnown, AreTypesKnown, HasFewPorts, IsComponentFault, IsSound, NamesType, has_known_messages, sut}
 use Rattle.tp_checks.proofs.KnownNamesByLookup.{each_known, each_there, messages_known, messages_there}
 

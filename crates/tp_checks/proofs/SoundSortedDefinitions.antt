@@ -1,14 +1,10 @@
 -- The definitions that were sorted out obey the rules of their kinds, where all obey the rules.
 use Rattle.std.proofs.Common.{◌≡◌, List, Option, Some, All, map, sym, ap, subst, refl}
-use Rattle.std.specs.Prelude.{IsSome}
 use Rattle.std.proofs.lemmas.Option.{same_Some}
-use Rattle.tp_tree.specs.declared.tree.Module.{Module}
-use Rattle.tp_tree.specs.declared.tree.Definition.{Definition}
-use Rattle.tp_tree.specs.declared.tree.Defined.{Defined}
-use Rattle.tp_tree.specs.declared.tree.Defined.TheVariants as d
-use Rattle.tp_tree.specs.declared.tree.PortType.{PortType}
+use Rattle.std.specs.Prelude.{IsSome}
+use Rattle.tp_tree.specs.declared.tree.{Module.Module, Definition.Definition, Defined.Defined, PortType.PortType, TestCase.TestCase}
 use Rattle.tp_tree.specs.declared.tree.ComponentType.{ComponentType}
-use Rattle.tp_tree.specs.declared.tree.TestCase.{TestCase}
+use Rattle.tp_tree.specs.declared.tree.Defined.TheVariants as d
 use Rattle.tp_checks.specs.declared.sorted.Sorted.{Sorted}
 use Rattle.tp_checks.specs.Tables.{IsNumbered}
 use Rattle.tp_checks.specs.Definitions.{component_type_of, component_type_names, inner_names, name_of, port_type_of, port_type_names, type_names, type_of}
@@ -20,26 +16,15 @@ use Rattle.tp_checks.proofs.SoundDefinitionRules.{sound_all}
 pub type_itself : (x y : Defined) → type_of x ≡ Some y → x ≡ y
 type_itself (d.Record r) y e = same_Some (d.Record r) y e
 type_itself (d.List l) y e = same_Some (d.List l) y e
-type_itself (d.Port p) y e = absurd (cc)
-type_itself (d.Component c) y e = absurd (cc)
-type_itself (d.Function f) y e = absurd (cc)
-type_itself (d.TestCase t) y e = absurd (cc)
+type_itself _ y e = absurd (cc)
 
 port_itself : (x : Defined) (y : PortType) → port_type_of x ≡ Some y → x ≡ d.Port y
-port_itself (d.Record r) y e = absurd (cc)
-port_itself (d.List l) y e = absurd (cc)
 port_itself (d.Port p) y e = ap d.Port (same_Some p y e)
-port_itself (d.Component c) y e = absurd (cc)
-port_itself (d.Function f) y e = absurd (cc)
-port_itself (d.TestCase t) y e = absurd (cc)
+port_itself _ y e = absurd (cc)
 
 component_itself : (x : Defined) (y : ComponentType) → component_type_of x ≡ Some y → x ≡ d.Component y
-component_itself (d.Record r) y e = absurd (cc)
-component_itself (d.List l) y e = absurd (cc)
-component_itself (d.Port p) y e = absurd (cc)
 component_itself (d.Component c) y e = ap d.Component (same_Some c y e)
-component_itself (d.Function f) y e = absurd (cc)
-component_itself (d.TestCase t) y e = absurd (cc)
+component_itself _ y e = absurd (cc)
 
 pub sorted_sound : (m : Module) (s : Sorted) (case : TestCase) → AreSorted m s → HasUniqueNames m → HasSoundDefinitions m case → IsSortedSound s
 sorted_sound m s case sorted unique sound =

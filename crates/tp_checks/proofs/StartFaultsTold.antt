@@ -1,28 +1,19 @@
 -- A start that breaks a rule, and what is left behind the last one.
 use Rattle.std.proofs.Common.{All, Contains, List, Some, [], ap, arith, drop, get_or, length, map, refl, slice_get, subst, sym, take, ℕ, ◌+◌, ◌<◌, ◌∷◌, ◌≡◌, ◌≢◌}
-use Rattle.std.specs.List.{AllZip}
-use Rattle.std.proofs.lemmas.List.{length-map}
-use Rattle.std.proofs.lemmas.List.Elements.{All-cons, All-nil}
-use Rattle.std.proofs.lemmas.Option.{slice_get_read}
+use Rattle.std.proofs.{lemmas.List.length-map, lemmas.List.Elements.All-cons, lemmas.List.Elements.All-nil, lemmas.Option.slice_get_read}
 use Rattle.std.proofs.lemmas.Slice.Zip.{AllZip-long}
-use Rattle.tp_tree.specs.declared.tree.ComponentName.{ComponentName}
-use Rattle.tp_tree.specs.declared.tree.ComponentStart.{ComponentStart}
-use Rattle.tp_tree.specs.declared.tree.Creation.{Creation}
-use Rattle.tp_tree.specs.declared.tree.Function.{Function}
-use Rattle.tp_tree.specs.declared.tree.Parameter.{Parameter}
-use Rattle.tp_tree.specs.declared.tree.SetupStatement.{SetupStatement}
+use Rattle.std.specs.List.{AllZip}
+use Rattle.tp_tree.specs.declared.tree.{ComponentName.ComponentName, ComponentStart.ComponentStart, Creation.Creation, Function.Function}
+use Rattle.tp_tree.specs.declared.tree.{Parameter.Parameter, SetupStatement.SetupStatement}
 use Rattle.tp_config.specs.declared.port_type.CompId.{CompId}
 use Rattle.tp_checks.specs.declared.fault.ModuleFault.{ModuleFault}
-use Rattle.tp_checks.specs.Refused.{Tells, TellsAt}
-use Rattle.tp_checks.specs.Tables.{IsNumbered, place_of_name}
-use Rattle.tp_checks.proofs.NameSetLookups.{named_at, place_known, place_unknown}
-use Rattle.tp_checks.specs.declared.starts.StartedComponent.{StartedComponent}
+use Rattle.tp_checks.specs.{Refused.Tells, Refused.TellsAt, Tables.IsNumbered, Tables.place_of_name}
 use Rattle.tp_checks.specs.BrokenStarts.{ArgumentBreaks, ArgumentsBreak, IsNeverStarted, IsStartFunction, StartBreaks, StartBreaksAmong, one_argument}
 use Rattle.tp_checks.specs.Components.{creation_of, creations, variable_name, variables}
 use Rattle.tp_checks.specs.Starting.{HasParameterType, IsArgument, IsStartOf, IsStartPlace, started_names}
-use Rattle.tp_checks.proofs.NameFaultsTold.{split_here}
-use Rattle.tp_checks.proofs.ListPrefixGrowth.{contains_at}
-use Rattle.tp_checks.proofs.RuleFaultPropagation.{told_at, told_from}
+use Rattle.tp_checks.proofs.{NameSetLookups.named_at, NameSetLookups.place_known, NameSetLookups.place_unknown, NameFaultsTold.split_here}
+use Rattle.tp_checks.proofs.{ListPrefixGrowth.contains_at, RuleFaultPropagation.told_at, RuleFaultPropagation.told_from}
+use Rattle.tp_checks.specs.declared.starts.StartedComponent.{StartedComponent}
 use Rattle.tp_checks.specs.BrokenStarts as b
 
 -- one of the arguments breaks a rule behind those before it

@@ -1,22 +1,17 @@
 -- What the rules on starts say of each start.
 use Rattle.std.proofs.Common.{◌≡◌, ℕ, ◌+◌, ◌<◌, List, [], ◌∷◌, ◌++◌, Option, None, Some, All, Contains, length, take, drop, get_or, map, option_map, slice_get, sym, ap, ◌∙◌, subst, arith, append_assoc}
-use Rattle.std.specs.List.{AllZip}
 use Rattle.std.proofs.lemmas.List.{get_or-map, length-map, map-append, take-append-drop}
 use Rattle.std.proofs.lemmas.List.Elements.{filter_map-append}
 use Rattle.std.proofs.lemmas.Option.{get_or_from_slice_get, slice_get-map, slice_get_within, same_Some}
-use Rattle.tp_tree.specs.declared.tree.ComponentStart.{ComponentStart}
-use Rattle.tp_tree.specs.declared.tree.Creation.{Creation}
-use Rattle.tp_tree.specs.declared.tree.Function.{Function}
-use Rattle.tp_tree.specs.declared.tree.SetupStatement.{SetupStatement}
+use Rattle.std.specs.List.{AllZip}
+use Rattle.tp_tree.specs.declared.tree.{ComponentStart.ComponentStart, Creation.Creation, Function.Function, SetupStatement.SetupStatement}
 use Rattle.tp_checks.specs.Tables.{AreDistinct, place_of_name}
-use Rattle.tp_checks.proofs.NameSetLookups.{place_there, place_unknown}
-use Rattle.tp_checks.specs.declared.starts.StartedComponent.{StartedComponent}
 use Rattle.tp_checks.specs.Components.{creation_of, creations, variable_name, variables}
 use Rattle.tp_checks.specs.Starting.{HasParameterType, IsArgument, IsStartOf, IsStartPlace}
+use Rattle.tp_checks.proofs.{NameSetLookups.place_there, NameSetLookups.place_unknown, CreatedComponentGrowth.one_creation}
+use Rattle.tp_checks.proofs.{ListPrefixGrowth.contains_at, UniqueZipsAndPlaces.once, UniqueZipsAndPlaces.zip_middle}
+use Rattle.tp_checks.specs.declared.starts.StartedComponent.{StartedComponent}
 use Rattle.tp_config.specs.declared.port_type.CompId.{CompId}
-use Rattle.tp_checks.proofs.CreatedComponentGrowth.{one_creation}
-use Rattle.tp_checks.proofs.ListPrefixGrowth.{contains_at}
-use Rattle.tp_checks.proofs.UniqueZipsAndPlaces.{once, zip_middle}
 
 -- what has the name is named
 pub named_there : {A : Type 0} (f : A → List ℕ) (xs : List A) (names : List (List ℕ)) (name : List ℕ) (x : A) → names ≡ map f xs → Contains xs x

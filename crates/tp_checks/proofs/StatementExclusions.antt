@@ -1,33 +1,24 @@
 -- A statement that breaks a rule stands for nothing, and so does the body in which it stands.
 use Rattle.std.proofs.Common.{ℕ, List, [], Option, Some, None, ap, ◌∙◌, subst, take, arith}
 use Rattle.std.proofs.lemmas.Option.{slice_get-get_or}
-use Rattle.tp_tree.specs.declared.tree.Variable.{Variable}
-use Rattle.tp_tree.specs.declared.tree.Statement.{Statement as StatementText}
-use Rattle.tp_tree.specs.declared.tree.Action.{Action}
+use Rattle.tp_tree.specs.declared.tree.{Variable.Variable, Statement.Statement as StatementText, Action.Action, Branch.Branch as BranchText}
+use Rattle.tp_tree.specs.declared.tree.{BranchBody.BranchBody, ElseBranch.ElseBranch}
 use Rattle.tp_tree.specs.declared.tree.Action.TheVariants as a
 use Rattle.tp_tree.specs.declared.tree.Action.TheOpen as o
-use Rattle.tp_tree.specs.declared.tree.Branch.{Branch as BranchText}
-use Rattle.tp_tree.specs.declared.tree.BranchBody.{BranchBody}
 use Rattle.tp_tree.specs.declared.tree.BranchBody.TheVariants as after
-use Rattle.tp_tree.specs.declared.tree.ElseBranch.{ElseBranch}
-use Rattle.tp_play.specs.declared.body.ResolvedStatement.{ResolvedStatement}
-use Rattle.tp_play.specs.declared.body.ResolvedBranch.{ResolvedBranch}
-use Rattle.tp_play.specs.declared.body.Body.{Body}
+use Rattle.tp_play.specs.declared.body.{ResolvedStatement.ResolvedStatement, ResolvedBranch.ResolvedBranch, Body.Body}
 use Rattle.tp_checks.specs.declared.fault.ModuleRule.{ModuleRule}
-use Rattle.tp_checks.specs.declared.scope.Scope.{Scope}
 use Rattle.tp_checks.specs.declared.scope.Variables.{Variables}
-use Rattle.tp_checks.specs.Scoping.{IsSoundScope, declared_port_names}
+use Rattle.tp_checks.specs.Scoping.{IsSoundScope, Visible}
 use Rattle.tp_checks.specs.Bodies.{AreBranches, AreVariables, IsAfter, IsBlock, IsBody, IsBranch, IsStatement}
-use Rattle.tp_checks.specs.BrokenBodies as b
 use Rattle.tp_checks.specs.BrokenBodies.{AfterBreaks, BlockBreaks, BodyBreaks, BranchBreaks, BranchesBreak, StatementBreaks, VariableBreaks, VariablesBreak}
-use Rattle.tp_checks.proofs.NameLookupsAreUnique.{absent_contained, absent_place}
+use Rattle.tp_checks.specs.BrokenBodies as b
+use Rattle.tp_checks.proofs.{NameLookupsAreUnique.absent_contained, NameLookupsAreUnique.absent_place, OperationInversions.verdict_means}
 use Rattle.tp_checks.proofs.BodyVariableDeclarations.{Next, has_next, variables_fixed}
-use Rattle.tp_checks.proofs.OperationInversions.{verdict_means}
-use Rattle.tp_checks.proofs.OperationExclusions.{receive_excludes, send_excludes}
-use Rattle.tp_checks.proofs.ListPrefixGrowth.{zip_beside}
+use Rattle.tp_checks.proofs.{OperationExclusions.receive_excludes, OperationExclusions.send_excludes, ListPrefixGrowth.zip_beside}
 use Rattle.tp_checks.proofs.StatementInversions.{Ruled, StandsFor, after_means, block_zip, branches_zip, made_parts, ruled}
 
-module _ (scope : Scope) (variables : Variables) (sound : IsSoundScope scope) where
+module _ (scope : Visible) (variables : Variables) (sound : IsSoundScope scope) where
   -- the branches of an `alt` stand for something, with or without an `[else]`
   ruled_branches : (turns : List (List ℕ)) (xs : List BranchText) (e : Option ElseBranch) (y : ResolvedStatement) → Ruled scope variables turns (o.Alt xs e) y
       → (ys : List ResolvedBranch) × AreBranches scope variables turns xs ys
@@ -44,7 +35,7 @@ module _ (scope : Scope) (variables : Variables) (sound : IsSoundScope scope) wh
     statement_excludes (b.control_in_sut turns line x is) y h = let p = rw a.outs-Control at (ruled scope variables h) in p.0 is
     statement_excludes (b.control_of_no_port turns line x other none) y h =
         let p = rw a.outs-Control at (ruled scope variables h) in
-        absent_place (declared_port_names scope.component_type.now) x.port p.1 none p.3.named
+        absent_place scope.ports.names x.port p.1 none p.3.named
     statement_excludes (b.all_ports_in_sut turns line x is) y h = let p = rw a.outs-AllPorts at (ruled scope variables h) in p.0 is
     statement_excludes (b.verdict_in_sut turns line x is) y h = let p = rw a.outs-SetVerdict at (ruled scope variables h) in p.0 is
     statement_excludes (b.error_verdict turns line other) y h = let p = rw a.outs-SetVerdict at (ruled scope variables h) in verdict_means p.2
@@ -76,7 +67,7 @@ module _ (scope : Scope) (variables : Variables) (sound : IsSoundScope scope) wh
     branches_exclude (b.in_branch turns xs us i x r at before there broken) ys h =
         let p = zip_beside (IsBranch scope variables turns) xs ys i x (branches_zip scope variables h) there in branch_excludes broken p.0 p.2
 
-module _ (scope : Scope) where
+module _ (scope : Visible) where
   variable_excludes : {vs : Variables} {x : Variable} {r : ModuleRule} → VariableBreaks scope vs x r → (xs : List Variable) → Next scope xs vs x → ⊥
   variable_excludes (b.no_type none) xs next = none next.held next.is_held
   variable_excludes (b.not_new held is_held old) xs next = old next.new
@@ -90,8 +81,8 @@ module _ (scope : Scope) where
   pub body_excludes : (sound : IsSoundScope scope) {line : ℕ} {xs : List Variable} {statements : List StatementText} → (r : ModuleRule) (at : ℕ)
       → BodyBreaks scope line xs statements r at → (body : Body) × IsBody scope xs statements body → ⊥
   body_excludes sound r at (b.parameter name (k, below, is) there) h =
-      absent_contained scope.parameters.now name
-      (h.1.no_port k name (slice_get-get_or (declared_port_names scope.component_type.now) k name below ∙ ap Some is)) there
+      absent_contained scope.parameters name
+      (h.1.no_port k name (slice_get-get_or scope.ports.names k name below ∙ ap Some is)) there
   body_excludes sound r at (b.variables s line apart broken) h = variables_exclude broken h.1.variables h.1.declared
   body_excludes sound {line} {xs} {statements} r at (b.statements vs s l apart made broken) h =
       let same = variables_fixed scope xs h.1.variables vs h.1.declared made in

@@ -3,36 +3,29 @@ use Rattle.std.proofs.Common.{◌≡◌, ◌≢◌, ℕ, List, [], ◌∷◌, �
 use Rattle.std.specs.List.{AllZip}
 use Rattle.tp_value.specs.declared.verdict.Verdict.{Verdict}
 use Rattle.tp_config.specs.declared.port_type.PortType.{PortType}
-use Rattle.tp_tree.specs.declared.tree.Statement.{Statement as StatementText}
-use Rattle.tp_tree.specs.declared.tree.Action.{Action}
+use Rattle.tp_tree.specs.declared.tree.{Statement.Statement as StatementText, Action.Action, Branch.Branch as BranchText}
+use Rattle.tp_tree.specs.declared.tree.{Action.TheViews.out-Action, Action.TheViews.out-BranchBody, BranchBody.BranchBody}
+use Rattle.tp_tree.specs.declared.tree.{ElseBranch.ElseBranch, ElseBranch.out-ElseBranch, Counted.Counted, Counted.out-Counted}
 use Rattle.tp_tree.specs.declared.tree.Action.TheVariants as a
 use Rattle.tp_tree.specs.declared.tree.Action.TheOpen as o
-use Rattle.tp_tree.specs.declared.tree.Action.TheViews.{out-Action, out-BranchBody}
-use Rattle.tp_tree.specs.declared.tree.Branch.{Branch as BranchText}
-use Rattle.tp_tree.specs.declared.tree.BranchBody.{BranchBody}
 use Rattle.tp_tree.specs.declared.tree.BranchBody.TheVariants as after
-use Rattle.tp_tree.specs.declared.tree.ElseBranch.{ElseBranch, out-ElseBranch}
-use Rattle.tp_tree.specs.declared.tree.Counted.{Counted, out-Counted}
-use Rattle.tp_play.specs.declared.body.SendOperation.{SendOperation}
-use Rattle.tp_play.specs.declared.body.Receiving.{Receiving}
-use Rattle.tp_play.specs.declared.body.ResolvedStatement.{ResolvedStatement}
-use Rattle.tp_play.specs.declared.body.ResolvedStatement.TheVariants as s
+use Rattle.tp_play.specs.declared.body.{SendOperation.SendOperation, Receiving.Receiving, ResolvedStatement.ResolvedStatement}
 use Rattle.tp_play.specs.declared.body.ResolvedBranch.{ResolvedBranch}
+use Rattle.tp_play.specs.declared.body.ResolvedStatement.TheVariants as s
 use Rattle.tp_checks.specs.declared.scope.BehaviourKind.TheVariants as behaviour_kind
-use Rattle.tp_checks.specs.declared.scope.Scope.{Scope}
 use Rattle.tp_checks.specs.declared.scope.Variables.{Variables}
-use Rattle.tp_checks.specs.Scoping.{IsPortNamed, IsNew}
-use Rattle.tp_checks.specs.Bodies as d
+use Rattle.tp_checks.specs.Scoping.{IsPortNamed, IsNew, Visible}
 use Rattle.tp_checks.specs.Bodies.{IsSend, IsReceive, IsVerdict, IsStatement, IsBlock, IsBranch, IsAfter, AreBranches}
+use Rattle.tp_checks.specs.Bodies as d
 use Rattle.tp_checks.proofs.ListPrefixGrowth.{zip_push}
 
-module _ (scope : Scope) (variables : Variables) where
+module _ (scope : Visible) (variables : Variables) where
   -- what the rule says of a statement, by its layer, and what it stands for
   abbrev pub Ruled : List (List ℕ) → o.Action-F Action BranchBody BranchText Counted ElseBranch StatementText → ResolvedStatement → Type 0
   Ruled turns (o.Send x) y = (z : SendOperation) × IsSend scope variables turns x z × (y ≡ s.Send z)
   Ruled turns (o.Receive x) y = (z : Receiving) × IsReceive scope variables turns x z × (y ≡ s.Receive z)
   Ruled turns (o.Control x) y =
-      (scope.behaviour ≢ behaviour_kind.SystemUnderTest) × (k : ℕ) × (port : PortType) × IsPortNamed scope.component_type.now x.port k port
+      (scope.behaviour ≢ behaviour_kind.SystemUnderTest) × (k : ℕ) × (port : PortType) × IsPortNamed scope x.port k port
       × (y ≡ s.Control k x.operation)
   Ruled turns (o.AllPorts x) y = (scope.behaviour ≢ behaviour_kind.SystemUnderTest) × (y ≡ s.AllPorts x)
   Ruled turns (o.SetVerdict x) y = (scope.behaviour ≢ behaviour_kind.SystemUnderTest) × (z : Verdict) × IsVerdict x z × (y ≡ s.SetVerdict z)

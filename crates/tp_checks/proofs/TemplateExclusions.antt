@@ -1,26 +1,19 @@
 -- A template that breaks a rule stands for nothing.
 use Rattle.std.proofs.Common.{◌≡◌, ℕ, List, Option, None, Some, length, refl}
 use Rattle.std.specs.List.{zip}
-use Rattle.tp_value.specs.declared.types.Ty.{Ty}
-use Rattle.tp_value.specs.declared.types.Field.{Field}
-use Rattle.tp_value.specs.declared.types.TypeDef.{TypeDef}
+use Rattle.tp_value.specs.declared.types.{Ty.Ty, Field.Field, TypeDef.TypeDef, Types.Types}
 use Rattle.tp_value.specs.declared.types.TypeDef.TheVariants as def
-use Rattle.tp_value.specs.declared.types.Types.{Types}
 use Rattle.tp_value.specs.Types.{named}
-use Rattle.tp_tree.specs.declared.message.Template.{Template}
+use Rattle.tp_tree.specs.declared.message.{Template.Template, TemplateField.TemplateField}
 use Rattle.tp_tree.specs.declared.message.Template.TheVariants as t
-use Rattle.tp_tree.specs.declared.message.TemplateField.{TemplateField}
 use Rattle.tp_play.specs.declared.body.RecvTemplate.{RecvTemplate}
 use Rattle.tp_checks.specs.declared.fault.ModuleRule.{ModuleRule}
-use Rattle.tp_checks.specs.Tables.{AreDistinct}
-use Rattle.tp_checks.specs.declared.scope.Variables.{Variables}
-use Rattle.tp_checks.specs.Placing.{field_names}
-use Rattle.tp_checks.specs.Scoping.{OwnNames}
+use Rattle.tp_checks.specs.{Tables.AreDistinct, Placing.field_names, Scoping.OwnNames}
 use Rattle.tp_checks.specs.Messages.{IsTemplate, IsElementTemplate, AreMembers, AreElementTemplates, AreFieldTemplates, AreNamedTemplates}
+use Rattle.tp_checks.specs.BrokenTemplates.{TemplateBreaks, MembersBreak, ListBreaks, RecordBreaks, ElementTemplatesBreak, FieldTemplatesBreak, EntryTemplatesBreak}
+use Rattle.tp_checks.specs.declared.scope.Variables.{Variables}
 use Rattle.tp_checks.specs.BrokenTemplates as b
-use Rattle.tp_checks.specs.BrokenTemplates.{RangeBreaks, TemplateBreaks, MembersBreak, ListBreaks, RecordBreaks, ElementTemplatesBreak, FieldTemplatesBreak, EntryTemplatesBreak}
-use Rattle.tp_checks.proofs.EachFieldHasEntry.{entry_stands}
-use Rattle.tp_checks.proofs.ValueExclusions.{text_excludes, name_excludes}
+use Rattle.tp_checks.proofs.{EachFieldHasEntry.entry_stands, ValueExclusions.text_excludes, ValueExclusions.name_excludes}
 use Rattle.tp_checks.proofs.ListPrefixGrowth.{zip_beside, zip_pair}
 use Rattle.tp_checks.proofs.TemplateInversions.{IsBraced, IsEntries, IsFieldTemplate, opened, members_zip, element_templates_zip, element_is_template, field_templates_count, field_templates_zip, named_templates_zip, names_part}
 

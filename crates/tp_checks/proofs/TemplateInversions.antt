@@ -1,26 +1,18 @@
 -- What a template is that stands for something: the lines of the definition of templates, read backwards.
 use Rattle.std.proofs.Common.{◌≡◌, ℕ, List, [], ◌∷◌, ◌++◌, Option, None, Some, map, length, refl, subst, arith}
-use Rattle.std.specs.List.{AllZip, zip}
 use Rattle.std.proofs.lemmas.List.{length_push}
-use Rattle.tp_value.specs.declared.types.Ty.{Ty}
+use Rattle.std.specs.List.{AllZip, zip}
+use Rattle.tp_value.specs.declared.types.{Ty.Ty, Field.Field, TypeDef.TypeDef, Types.Types}
 use Rattle.tp_value.specs.declared.types.Ty.TheVariants as ty
-use Rattle.tp_value.specs.declared.types.Field.{Field}
-use Rattle.tp_value.specs.declared.types.TypeDef.{TypeDef}
 use Rattle.tp_value.specs.declared.types.TypeDef.TheVariants as def
-use Rattle.tp_value.specs.declared.types.Types.{Types}
-use Rattle.tp_value.specs.Types.{named}
-use Rattle.tp_value.specs.HasType.{ArePrintable}
-use Rattle.tp_value.specs.Fits.{AreOrdered}
-use Rattle.tp_tree.specs.declared.message.Template.{Template}
+use Rattle.tp_value.specs.{Types.named, HasType.ArePrintable, Fits.AreOrdered}
+use Rattle.tp_tree.specs.declared.message.{Template.Template, Template.TheViews.out-Template, TemplateField.TemplateField}
 use Rattle.tp_tree.specs.declared.message.Template.TheVariants as t
 use Rattle.tp_tree.specs.declared.message.Template.TheOpen as o
-use Rattle.tp_tree.specs.declared.message.Template.TheViews.{out-Template}
-use Rattle.tp_tree.specs.declared.message.TemplateField.{TemplateField}
 use Rattle.tp_play.specs.declared.body.SendValue.TheVariants as w
 use Rattle.tp_play.specs.declared.body.RecvTemplate.{RecvTemplate}
 use Rattle.tp_play.specs.declared.body.RecvTemplate.TheVariants as r
-use Rattle.tp_checks.specs.Named.{IsPlace}
-use Rattle.tp_checks.specs.Placing.{HaveEntries}
+use Rattle.tp_checks.specs.{Named.IsPlace, Placing.HaveEntries}
 use Rattle.tp_checks.specs.Messages.{IsTemplate, part_of, int_template, bool_template, text_template, turn_template, any, one_of, none_of, range, pattern, element_templates, place_templates, field_templates, AreMembers, no_member, one_member_more, AreElementTemplates, no_element_template, one_element_template_more, IsElementTemplate, many, single, AreFieldTemplates, no_field_template, one_field_template_more, AreNamedTemplates, no_name_template, one_name_template_more}
 use Rattle.tp_checks.proofs.ListPrefixGrowth.{zip_one_more, zip_push}
 use Rattle.tp_checks.proofs.EachFieldHasEntry.{Entry, have_entries}

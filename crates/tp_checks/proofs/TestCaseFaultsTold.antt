@@ -1,23 +1,16 @@
 -- A definition whose names can't be given, or that is the second test case, and the line of the first.
 use Rattle.std.proofs.Common.{◌≡◌, ◌≢◌, ◌≤◌, ◌⊎◌, inl, inr, ℕ, ◌+◌, ◌<◌, true, ◌||◌, Option, None, Some, IfSome, List, [], ◌∷◌, ◌++◌, All, Contains, length, take, drop, get_or, is_some, refl, sym, ap, ◌∙◌, subst, arith}
-use Rattle.std.specs.List.{cons_option, list_any}
-use Rattle.std.specs.Option.{option_to_list}
-use Rattle.std.proofs.lemmas.List.{get_or_push, length_push}
-use Rattle.std.proofs.lemmas.List.Elements.{Contains-append_left}
-use Rattle.tp_tree.specs.declared.tree.Definition.{Definition}
-use Rattle.tp_tree.specs.declared.tree.TestCase.{TestCase}
-use Rattle.tp_checks.specs.declared.fault.ModuleRule.{ModuleRule}
-use Rattle.tp_checks.specs.declared.fault.ModuleRule.TheVariants.{Duplicate}
-use Rattle.tp_checks.specs.Tables.{IsNumbered}
-use Rattle.tp_checks.specs.declared.unique_names.CaseAt.{CaseAt}
-use Rattle.tp_checks.specs.Cases.{cases_of}
+use Rattle.std.proofs.{lemmas.List.get_or_push, lemmas.List.length_push, lemmas.List.Elements.Contains-append_left}
+use Rattle.std.specs.{List.cons_option, List.list_any, Option.option_to_list}
+use Rattle.tp_tree.specs.declared.tree.{Definition.Definition, TestCase.TestCase}
+use Rattle.tp_checks.specs.declared.fault.{ModuleRule.ModuleRule, ModuleRule.TheVariants.Duplicate}
+use Rattle.tp_checks.specs.{Tables.IsNumbered, Cases.cases_of}
 use Rattle.tp_checks.specs.BrokenNames.{DefinedNameBreaks, DefinitionNamesBreak, GivenNamesBreak, given, names_before, second_case}
-use Rattle.tp_checks.specs.Definitions.{BeginsAmong, of_kind, case_of, inner_names, name_of}
 use Rattle.tp_checks.specs.BrokenNames.{in_definition, inner_name, no_test_case, own_name}
-use Rattle.tp_checks.proofs.DistinctNamesInParts.{no_case}
-use Rattle.tp_checks.proofs.ModuleFaultPropagation.{name_told}
-use Rattle.tp_checks.proofs.NameFaultsTold.{name_among, split_here}
-use Rattle.tp_checks.proofs.ListPrefixGrowth.{kept_more, pushed}
+use Rattle.tp_checks.specs.Definitions.{BeginsAmong, of_kind, case_of, inner_names, name_of}
+use Rattle.tp_checks.specs.declared.unique_names.CaseAt.{CaseAt}
+use Rattle.tp_checks.proofs.{DistinctNamesInParts.no_case, ModuleFaultPropagation.name_told}
+use Rattle.tp_checks.proofs.{NameFaultsTold.name_among, NameFaultsTold.split_here, ListPrefixGrowth.kept_more, ListPrefixGrowth.pushed}
 
 one_case : (o : Option CaseAt) → length (cases_of o) ≤ 1
 one_case None = omega arith

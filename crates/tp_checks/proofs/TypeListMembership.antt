@@ -1,30 +1,17 @@
 -- A type that a list has.
 use Rattle.std.proofs.Common.{◌≡◌, true, List, Contains, refl, sym, ap, ◌∙◌}
+use Rattle.std.proofs.{lemmas.Bool.Decides.Decides-eqb, lemmas.List.Folds.list_any_at, lemmas.Map.Views.Contains-from_any}
 use Rattle.std.specs.List.{list_any}
-use Rattle.std.proofs.lemmas.Bool.Decides.{Decides-eqb}
-use Rattle.std.proofs.lemmas.List.Folds.{list_any_at}
-use Rattle.std.proofs.lemmas.Map.Views.{Contains-from_any}
 use Rattle.tp_value.specs.declared.types.Ty.{Ty}
 use Rattle.tp_value.specs.declared.types.Ty.TheVariants.{Integer, Boolean, Charstring, Named}
 use Rattle.tp_config.specs.Types.{same_type}
 
 same_is : (x y : Ty) → same_type x y ≡ true → x ≡ y
 same_is Integer Integer e = refl
-same_is Integer Boolean e = absurd (cc)
-same_is Integer Charstring e = absurd (cc)
-same_is Integer (Named n) e = absurd (cc)
-same_is Boolean Integer e = absurd (cc)
 same_is Boolean Boolean e = refl
-same_is Boolean Charstring e = absurd (cc)
-same_is Boolean (Named n) e = absurd (cc)
-same_is Charstring Integer e = absurd (cc)
-same_is Charstring Boolean e = absurd (cc)
 same_is Charstring Charstring e = refl
-same_is Charstring (Named n) e = absurd (cc)
-same_is (Named m) Integer e = absurd (cc)
-same_is (Named m) Boolean e = absurd (cc)
-same_is (Named m) Charstring e = absurd (cc)
 same_is (Named m) (Named n) e = ap Named ((Decides-eqb m n).0 e)
+same_is _ _ e = absurd (cc)
 
 is_same : (x : Ty) → same_type x x ≡ true
 is_same Integer = refl

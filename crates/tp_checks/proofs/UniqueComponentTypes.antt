@@ -1,41 +1,28 @@
 -- The component types that a module defines are determined, as far as their ports go.
 use Rattle.std.proofs.Common.{◌≡◌, ℕ, List, [], ◌∷◌, Some, map, refl, sym, ap, ◌∙◌, subst}
-use Rattle.std.specs.List.{AllZip, flat_map}
 use Rattle.std.proofs.lemmas.Option.{same_Some}
+use Rattle.std.specs.List.{AllZip, flat_map}
 use Rattle.tp_tree.specs.declared.message.TypeName.{TypeName}
-use Rattle.tp_tree.specs.declared.tree.ComponentType.{ComponentType}
-use Rattle.tp_tree.specs.declared.tree.Defined.{Defined}
-use Rattle.tp_tree.specs.declared.tree.Defined.TheVariants as defined
-use Rattle.tp_tree.specs.declared.tree.Definition.{Definition}
-use Rattle.tp_tree.specs.declared.tree.Module.{Module}
+use Rattle.tp_tree.specs.declared.tree.{ComponentType.ComponentType, Defined.Defined, Definition.Definition, Module.Module}
 use Rattle.tp_tree.specs.declared.tree.PortType.{PortType}
+use Rattle.tp_tree.specs.declared.tree.Defined.TheVariants as defined
 use Rattle.tp_value.specs.declared.types.Ty.{Ty}
 use Rattle.tp_config.specs.declared.port_type.CompType.{CompType}
-use Rattle.tp_config.specs.Setup.{PortDecl}
-use Rattle.tp_config.specs.Shape.{ports_of}
-use Rattle.tp_checks.specs.Tables.{AreDistinct, IsNumbered}
+use Rattle.tp_config.specs.{Setup.PortDecl, Shape.ports_of}
+use Rattle.tp_checks.specs.{Tables.AreDistinct, Tables.IsNumbered, Components.HaveDistinctPorts, Defining.IsDefined, Rules.HasUniqueNames}
+use Rattle.tp_checks.specs.Configuring.{AreOwnPorts, AreSoundVariables, CanSetUp, IsConfigBySetup, names_of_ports}
+use Rattle.tp_checks.specs.Definitions.{component_type_of, component_type_names, component_types, declared_ports, functions, inner_names, port_type_of, port_type_names, port_types, test_cases, type_names}
+use Rattle.tp_checks.specs.{Prepared.IsWellDeclared, Sorted.component_types_in, Sorted.functions_in, Starting.AreStarts}
+use Rattle.tp_checks.specs.Resolved.{IsComponentType, IsPortDecl, IsTypeNamed, port_list, received_types, sent_types}
 use Rattle.tp_checks.specs.declared.definitions.Definitions.{Definitions}
 use Rattle.tp_checks.specs.declared.starts.Starts.{Starts}
-use Rattle.tp_checks.specs.Components.{HaveDistinctPorts}
-use Rattle.tp_checks.specs.Configuring.{AreOwnPorts, AreSoundVariables, CanSetUp, IsConfigBySetup, names_of_ports}
-use Rattle.tp_checks.specs.Defining.{IsDefined}
-use Rattle.tp_checks.specs.Definitions.{component_type_of, component_type_names, component_types, declared_ports, functions, inner_names, port_type_of, port_type_names, port_types, test_cases, type_names}
-use Rattle.tp_checks.specs.Prepared.{IsWellDeclared}
-use Rattle.tp_checks.specs.Resolved.{IsComponentType, IsPortDecl, IsTypeNamed, port_list, received_types, sent_types}
-use Rattle.tp_checks.specs.Rules.{HasUniqueNames}
-use Rattle.tp_checks.specs.Sorted.{component_types_in, functions_in}
-use Rattle.tp_checks.specs.Starting.{AreStarts}
 use Rattle.tp_checks.proofs.DistinctNamesInParts.{all_among, numbered_among, port_named}
 use Rattle.tp_checks.proofs.UniqueZipsAndPlaces.{same_named, zip_same, zip_seen}
 use Rattle.tp_checks.proofs.PortTypesAsDeclared.{ports_named}
 
 own_ports : (x : Defined) (c : ComponentType) → component_type_of x ≡ Some c → inner_names x ≡ declared_ports c.ports
-own_ports (defined.Record r) c e = absurd (cc)
-own_ports (defined.List l) c e = absurd (cc)
-own_ports (defined.Port p) c e = absurd (cc)
 own_ports (defined.Component d) c e = ap (λ (c : ComponentType). declared_ports c.ports) (same_Some d c e)
-own_ports (defined.Function f) c e = absurd (cc)
-own_ports (defined.TestCase t) c e = absurd (cc)
+own_ports _ c e = absurd (cc)
 
 -- the port types have names of their own
 pub ports_apart : (m : Module) → HasUniqueNames m → AreDistinct (port_type_names m)
@@ -76,11 +63,10 @@ module _ (types : List (List ℕ)) (ports : List PortType) where
 pub names_made : (types : List (List ℕ)) (ports : List PortType) (cs : List ComponentType) (made : List CompType)
     → AllZip (IsComponentType types ports) cs made → map names_of_ports (map ports_of made) ≡ map (λ (c : ComponentType). declared_ports c.ports) cs
 names_made types ports [] [] each = refl
-names_made types ports [] (t ∷ ts) each = absurd each
-names_made types ports (c ∷ cs) [] each = absurd each
 names_made types ports (c ∷ cs) (t ∷ ts) each =
     ap (λ n. n ∷ map names_of_ports (map ports_of ts)) (ports_named types ports c.ports (ports_of t) each.0)
     ∙ ap (λ l. declared_ports c.ports ∷ l) (names_made types ports cs ts each.1)
+names_made _ _ _ _ each = absurd each
 
 module _ (m : Module) (d : Definitions) (made : IsDefined m d) where
   -- the component types that were made have the ports that are declared

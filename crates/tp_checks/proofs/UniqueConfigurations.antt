@@ -1,19 +1,14 @@
 -- Setup statements make one configuration, and each does its step.
 use Rattle.std.proofs.Common.{◌≡◌, ℕ, ◌+◌, ◌<◌, ◌≤◌, ◌⊎◌, inl, inr, List, [], ◌∷◌, ◌++◌, Option, length, take, drop, get_or, map, refl, sym, ap, ◌∙◌, subst, arith}
-use Rattle.std.specs.Option.{option_map, option_to_list}
-use Rattle.std.proofs.lemmas.Bool.{cases_lt}
+use Rattle.std.proofs.{lemmas.Bool.cases_lt, lemmas.List.Elements.filter_map-append}
 use Rattle.std.proofs.lemmas.List.{length_push, map-append, same_from_push, take-append-drop, take-append-le, take_all}
-use Rattle.std.proofs.lemmas.List.Elements.{filter_map-append}
-use Rattle.tp_tree.specs.declared.tree.SetupAction.{SetupAction}
+use Rattle.std.specs.Option.{option_map, option_to_list}
+use Rattle.tp_tree.specs.declared.tree.{SetupAction.SetupAction, SetupStatement.SetupStatement}
 use Rattle.tp_tree.specs.declared.tree.SetupAction.TheVariants as setup_action
-use Rattle.tp_tree.specs.declared.tree.SetupStatement.{SetupStatement}
 use Rattle.tp_config.specs.Setup.{Setup, connecting, mapping}
-use Rattle.tp_checks.specs.Tables.{IsNumbered}
-use Rattle.tp_checks.specs.Components.{creation_of, creations, variable_name, variables}
+use Rattle.tp_checks.specs.{Tables.IsNumbered, Components.creation_of, Components.creations, Components.variable_name, Components.variables}
 use Rattle.tp_checks.specs.Configuring.{HaveOwnPorts, IsStep, Makes, nothing, one_more}
-use Rattle.tp_checks.proofs.SetupStatementGrowth.{variables_more}
-use Rattle.tp_checks.proofs.PortsOfPairEnds.{same_end}
-use Rattle.tp_checks.proofs.DistinctNamesInParts.{numbered_first}
+use Rattle.tp_checks.proofs.{SetupStatementGrowth.variables_more, PortsOfPairEnds.same_end, DistinctNamesInParts.numbered_first}
 use Rattle.tp_checks.proofs.ListPrefixGrowth.{pushed}
 
 module _ (names : List (List ℕ)) (system : Option ℕ) where
@@ -27,16 +22,19 @@ module _ (names : List (List ℕ)) (system : Option ℕ) where
       first.mapped ∙ ap (λ a. mapping s a first.q) (same_end s names system own x first.p second.p first.first second.first)
       ∙ ap (mapping s second.p) (same_end s names system own y first.q second.q first.second second.second) ∙ sym second.mapped
 
-  step_types : (a : SetupAction) (s t : Setup) → IsStep s names system a t → t.types ≡ s.types
-  step_types (setup_action.Create c) s t step = ap (λ (s : Setup). s.types) step
-  step_types (setup_action.Connect x y) s t step = ap (λ (s : Setup). s.types) step.connected
-  step_types (setup_action.Map x y) s t step = ap (λ (s : Setup). s.types) step.mapped
+  step_leaves : (a : SetupAction) (s t : Setup) → IsStep s names system a t → (t.types ≡ s.types) × (t.components ≡ s.components)
+  step_leaves (setup_action.Create c) s t e = (ap (λ (u : Setup). u.types) e, ap (λ (u : Setup). u.components) e)
+  step_leaves (setup_action.Connect x y) s t e = (ap (λ (u : Setup). u.types) e.connected, ap (λ (u : Setup). u.components) e.connected)
+  step_leaves (setup_action.Map x y) s t e = (ap (λ (u : Setup). u.types) e.mapped, ap (λ (u : Setup). u.components) e.mapped)
 
 module _ (system : Option ℕ) (start : Setup) where
-  -- the component types stay
-  pub makes_types : (xs : List SetupStatement) (t : Setup) → Makes system start xs t → t.types ≡ start.types
-  makes_types xs t nothing = refl
-  makes_types xs t (one_more ys s x u before step) = step_types (variables ys) system x.action s t step ∙ makes_types ys s before
+  -- the component types and the components stay
+  pub makes_leaves : (xs : List SetupStatement) (t : Setup) → Makes system start xs t → (t.types ≡ start.types) × (t.components ≡ start.components)
+  makes_leaves xs t nothing = (refl, refl)
+  makes_leaves xs t (one_more ys s x u before step) =
+      let earlier = makes_leaves ys s before in
+      let here = step_leaves (variables ys) system x.action s t step in
+      (here.0 ∙ earlier.0, here.1 ∙ earlier.1)
 
   abbrev Last : List SetupStatement → Setup → Type 0
   Last xs t =
@@ -68,7 +66,7 @@ module _ (system : Option ℕ) (start : Setup) where
           subst (λ z. IsStep z (variables vs) system x.action t) (sym same)
           (subst (λ l. IsStep h.2 (variables l) system x.action t) (sym parts.0)
           (subst (λ (z : SetupStatement). IsStep h.2 (variables h.0) system z.action t) (sym parts.1) h.5)) in
-          step_same (variables vs) system x.action u s t (subst HaveOwnPorts (sym (makes_types vs u before)) own) step other
+          step_same (variables vs) system x.action u s t (subst HaveOwnPorts (sym (makes_leaves vs u before).0) own) step other
 
   -- the first of them make one as well
   pub makes_first : (n : ℕ) (xs : List SetupStatement) (t : Setup) → Makes system start xs t → (s : Setup) × Makes system start (take n xs) s

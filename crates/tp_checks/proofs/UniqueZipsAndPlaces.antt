@@ -1,9 +1,8 @@
 -- Two lists that agree item by item, and names that stand once.
 use Rattle.std.proofs.Common.{◌≡◌, ℕ, zero, suc, ◌<◌, inl, inr, List, [], ◌∷◌, ◌++◌, Some, Contains, length, get_or, map, option_map, slice_get, refl, sym, ap, ◌∙◌, subst, arith}
-use Rattle.std.specs.List.{AllZip}
-use Rattle.std.proofs.lemmas.Bool.{cases_lt}
-use Rattle.std.proofs.lemmas.List.{get_or_at, get_or_append_left, length-append}
+use Rattle.std.proofs.{lemmas.Bool.cases_lt, lemmas.List.get_or_at, lemmas.List.get_or_append_left, lemmas.List.length-append}
 use Rattle.std.proofs.lemmas.Option.{slice_get-get_or, slice_get-map, slice_get_within, get_or_from_slice_get, same_Some}
+use Rattle.std.specs.List.{AllZip}
 use Rattle.tp_checks.specs.Tables.{AreDistinct}
 
 module _ {A B : Type 0} (R : A → B → Type 0) where
@@ -25,23 +24,21 @@ module _ {A B : Type 0} (R : A → B → Type 0) where
 
   -- what stands in the other list beside an item in the middle
   pub zip_middle : (xs : List A) (x : A) (more : List A) (zs : List B) → AllZip R (xs ++ x ∷ more) zs → (z : B) × R x z
-  zip_middle [] x more [] each = absurd each
   zip_middle [] x more (z ∷ zs) each = (z, each.0)
-  zip_middle (a ∷ xs) x more [] each = absurd each
   zip_middle (a ∷ xs) x more (z ∷ zs) each = zip_middle xs x more zs each.1
+  zip_middle _ _ _ _ each = absurd each
 
   -- where an item determines what stands beside it, a list does
   pub zip_same : {Q : A → B → Type 0} → ((x : A) (y z : B) → Q x y → R x z → y ≡ z) → (xs : List A) (ys zs : List B) → AllZip Q xs ys → AllZip R xs zs
       → ys ≡ zs
   zip_same one [] [] [] first second = refl
-  zip_same one [] [] (z ∷ zs) first second = absurd second
   zip_same one [] (y ∷ ys) zs first second = absurd first
   zip_same one (x ∷ xs) [] zs first second = absurd first
-  zip_same one (x ∷ xs) (y ∷ ys) [] first second = absurd second
   zip_same one (x ∷ xs) (y ∷ ys) (z ∷ zs) first second =
       let here : y ≡ z = one x y z first.0 second.0 in
       let rest : ys ≡ zs = zip_same one xs ys zs first.1 second.1 in
       rw (here, rest)
+  zip_same _ _ _ _ _ second = absurd second
 
   -- nothing else can stand beside an item
   abbrev pub Fixes : A → B → Type 0
@@ -54,12 +51,11 @@ module _ {A B : Type 0} (R : A → B → Type 0) where
 pub zip_seen : {A B C : Type 0} (R : A → B → Type 0) (f : B → C) → ((x : A) (y z : B) → R x y → R x z → f y ≡ f z) → (xs : List A) (ys zs : List B)
     → AllZip R xs ys → AllZip R xs zs → map f ys ≡ map f zs
 zip_seen R f one [] [] [] first second = refl
-zip_seen R f one [] [] (z ∷ zs) first second = absurd second
 zip_seen R f one [] (y ∷ ys) zs first second = absurd first
 zip_seen R f one (x ∷ xs) [] zs first second = absurd first
-zip_seen R f one (x ∷ xs) (y ∷ ys) [] first second = absurd second
 zip_seen R f one (x ∷ xs) (y ∷ ys) (z ∷ zs) first second =
     ap (λ a. a ∷ map f ys) (one x y z first.0 second.0) ∙ ap (λ l. f z ∷ l) (zip_seen R f one xs ys zs first.1 second.1)
+zip_seen _ _ _ _ _ _ _ second = absurd second
 
 -- what stands in a third list beside the items of two
 pub zip_both : {A B C : Type 0} (R : A → C → Type 0) (S : B → C → Type 0) (xs : List A) (ys : List B) (zs : List C) (i : ℕ) (x : A) (y : B)

@@ -1,29 +1,20 @@
 -- A value that breaks a rule stands for nothing.
 use Rattle.std.proofs.Common.{◌≡◌, ℕ, List, Option, None, Some, length, refl}
 use Rattle.std.specs.List.{zip}
-use Rattle.tp_value.specs.declared.types.Ty.{Ty}
+use Rattle.tp_value.specs.declared.types.{Ty.Ty, Field.Field, TypeDef.TypeDef, Types.Types}
 use Rattle.tp_value.specs.declared.types.Ty.TheVariants as ty
-use Rattle.tp_value.specs.declared.types.Field.{Field}
-use Rattle.tp_value.specs.declared.types.TypeDef.{TypeDef}
 use Rattle.tp_value.specs.declared.types.TypeDef.TheVariants as def
-use Rattle.tp_value.specs.declared.types.Types.{Types}
-use Rattle.tp_value.specs.Types.{named}
-use Rattle.tp_value.specs.HasType.{ArePrintable}
-use Rattle.tp_tree.specs.declared.message.Value.{Value}
+use Rattle.tp_value.specs.{Types.named, HasType.ArePrintable}
+use Rattle.tp_tree.specs.declared.message.{Value.Value, ValueField.ValueField}
 use Rattle.tp_tree.specs.declared.message.Value.TheVariants as v
-use Rattle.tp_tree.specs.declared.message.ValueField.{ValueField}
 use Rattle.tp_play.specs.declared.body.SendValue.{SendValue}
 use Rattle.tp_checks.specs.declared.fault.ModuleRule.{ModuleRule}
-use Rattle.tp_checks.specs.Named.{IsPlace}
-use Rattle.tp_checks.specs.Tables.{AreDistinct}
-use Rattle.tp_checks.specs.declared.scope.Variables.{Variables}
-use Rattle.tp_checks.specs.Placing.{field_names}
-use Rattle.tp_checks.specs.Scoping.{OwnNames}
+use Rattle.tp_checks.specs.{Named.IsPlace, Tables.AreDistinct, Placing.field_names, Scoping.OwnNames}
 use Rattle.tp_checks.specs.Messages.{IsValue, AreElements, AreFields, AreNamed}
-use Rattle.tp_checks.specs.BrokenValues as b
 use Rattle.tp_checks.specs.BrokenValues.{TextBreaks, ValueNameBreaks, ValueBreaks, ElementsBreak, FieldsBreak, EntriesBreak}
-use Rattle.tp_checks.proofs.NameLookupsAreUnique.{absent_place}
-use Rattle.tp_checks.proofs.EachFieldHasEntry.{entry_stands}
+use Rattle.tp_checks.specs.declared.scope.Variables.{Variables}
+use Rattle.tp_checks.specs.BrokenValues as b
+use Rattle.tp_checks.proofs.{NameLookupsAreUnique.absent_place, EachFieldHasEntry.entry_stands}
 use Rattle.tp_checks.proofs.ListPrefixGrowth.{zip_beside, zip_pair}
 use Rattle.tp_checks.proofs.ValueInversions.{IsEntries, IsFieldValue, opened, elements_zip, fields_count, fields_zip, names_part, names_zip}
 

@@ -1,24 +1,17 @@
 -- What a value is that stands for something: the lines of the definition of values, read backwards.
 use Rattle.std.proofs.Common.{◌≡◌, ℕ, List, [], ◌∷◌, ◌++◌, Option, None, Some, map, length, refl, subst, arith}
-use Rattle.std.specs.List.{AllZip, zip}
 use Rattle.std.proofs.lemmas.List.{length_push}
-use Rattle.tp_value.specs.declared.types.Ty.{Ty}
+use Rattle.std.specs.List.{AllZip, zip}
+use Rattle.tp_value.specs.declared.types.{Ty.Ty, Field.Field, TypeDef.TypeDef, Types.Types}
 use Rattle.tp_value.specs.declared.types.Ty.TheVariants as ty
-use Rattle.tp_value.specs.declared.types.Field.{Field}
-use Rattle.tp_value.specs.declared.types.TypeDef.{TypeDef}
 use Rattle.tp_value.specs.declared.types.TypeDef.TheVariants as def
-use Rattle.tp_value.specs.declared.types.Types.{Types}
-use Rattle.tp_value.specs.Types.{named}
-use Rattle.tp_value.specs.HasType.{ArePrintable}
-use Rattle.tp_tree.specs.declared.message.Value.{Value}
+use Rattle.tp_value.specs.{Types.named, HasType.ArePrintable}
+use Rattle.tp_tree.specs.declared.message.{Value.Value, Value.TheViews.out-Value, ValueField.ValueField}
 use Rattle.tp_tree.specs.declared.message.Value.TheVariants as v
 use Rattle.tp_tree.specs.declared.message.Value.TheOpen as o
-use Rattle.tp_tree.specs.declared.message.Value.TheViews.{out-Value}
-use Rattle.tp_tree.specs.declared.message.ValueField.{ValueField}
 use Rattle.tp_play.specs.declared.body.SendValue.{SendValue}
 use Rattle.tp_play.specs.declared.body.SendValue.TheVariants as w
-use Rattle.tp_checks.specs.Named.{IsPlace}
-use Rattle.tp_checks.specs.Placing.{HaveEntries}
+use Rattle.tp_checks.specs.{Named.IsPlace, Placing.HaveEntries}
 use Rattle.tp_checks.specs.Messages.{IsValue, int, bool, text, turn, elements, places, fields, AreElements, no_element, one_element_more, AreFields, no_field, one_field_more, AreNamed, no_name, one_name_more}
 use Rattle.tp_checks.proofs.ListPrefixGrowth.{zip_one_more, zip_push}
 use Rattle.tp_checks.proofs.EachFieldHasEntry.{Entry, have_entries}

@@ -1,17 +1,12 @@
 -- Why a component can't be added to a configuration, and where creating the components stops.
 use Rattle.std.specs.Prelude.{◌≡◌, ◌<◌, ◌≤◌, ◌+◌, ◌⊎◌, ℕ, true, Some, IfSome, IsSome, List, ◌∷◌, ◌++◌}
 use Rattle.std.specs.Prelude.{Contains, codes, length}
-use Rattle.tp_tree.specs.declared.tree.Creation.{Creation}
-use Rattle.tp_tree.specs.declared.tree.SetupStatement.{SetupStatement}
-use Rattle.tp_tree.specs.declared.tree.TestCase.{TestCase}
-use Rattle.tp_config.specs.Setup.{Setup, is_system_role, names_of_components}
-use Rattle.tp_config.specs.Causes.{HasSystem}
-use Rattle.tp_checks.specs.declared.fault.ModuleRule.{ModuleRule}
+use Rattle.tp_tree.specs.declared.tree.{Creation.Creation, SetupStatement.SetupStatement, TestCase.TestCase}
+use Rattle.tp_config.specs.{Setup.Setup, Setup.is_system_role, Setup.names_of_components, Causes.HasSystem}
+use Rattle.tp_checks.specs.declared.fault.{ModuleRule.ModuleRule, ModuleFault.ModuleFault}
 use Rattle.tp_checks.specs.declared.fault.ModuleRule.TheVariants.{Unknown, Duplicate, Limit}
-use Rattle.tp_checks.specs.declared.fault.ModuleFault.{ModuleFault}
-use Rattle.tp_checks.specs.Refused.{TellsAt}
+use Rattle.tp_checks.specs.{Refused.TellsAt, BrokenSetup.CreationBreaks}
 use Rattle.tp_checks.specs.Components.{Declared, HasSoundVariables, creation_of, creations, variables}
-use Rattle.tp_checks.specs.BrokenSetup.{CreationBreaks}
 
 -- adding a component to a configuration breaks this rule, given the names of the component types
 pub data AdditionBreaks (types : List (List ℕ)) (x : Declared) (s : Setup) : ModuleRule → Type 0 where

@@ -1,6 +1,6 @@
 -- What the statements of the text stand for, with a case for each line of the grammar. A statement with a fault stands
 -- for nothing.
-use Rattle.std.specs.Prelude.{◌≡◌, ◌≢◌, ◌<◌, ℕ, List, length, [], ◌∷◌, ◌++◌, Option, None, Some, Contains, slice_get}
+use Rattle.std.specs.Prelude.{◌≡◌, ◌≢◌, ◌<◌, ℕ, List, length, [], ◌∷◌, ◌++◌, Option, None, Some, Contains}
 use Rattle.tp_value.specs.declared.types.Ty.{Ty}
 use Rattle.tp_value.specs.declared.types.Ty.TheVariants as ty
 use Rattle.tp_value.specs.declared.verdict.Verdict.{Verdict}
@@ -8,59 +8,40 @@ use Rattle.tp_value.specs.declared.verdict.Verdict.TheVariants as verdict
 use Rattle.tp_value.specs.Types.{type_number}
 use Rattle.tp_config.specs.declared.port_type.PortType.{PortType}
 use Rattle.tp_tree.specs.declared.message.TypeName.TheVariants as type_name
-use Rattle.tp_tree.specs.declared.message.TypeName.{TypeName}
-use Rattle.tp_tree.specs.declared.tree.ComponentName.{ComponentName}
-use Rattle.tp_tree.specs.declared.tree.ComponentName.TheVariants as component_name
-use Rattle.tp_tree.specs.declared.message.Message.{Message}
-use Rattle.tp_tree.specs.declared.message.MessageTemplate.{MessageTemplate}
-use Rattle.tp_tree.specs.declared.tree.SentExpression.{SentExpression}
-use Rattle.tp_tree.specs.declared.tree.SentExpression.TheVariants as sent
-use Rattle.tp_tree.specs.declared.tree.Receivers.{Receivers}
-use Rattle.tp_tree.specs.declared.tree.Receivers.TheVariants as destination
-use Rattle.tp_tree.specs.declared.tree.Send.{Send}
-use Rattle.tp_tree.specs.declared.tree.Receive.{Receive}
-use Rattle.tp_common.specs.declared.operation.PortOperation.{PortOperation}
-use Rattle.tp_tree.specs.declared.tree.Control.{Control}
-use Rattle.tp_tree.specs.declared.tree.VerdictName.{VerdictName}
-use Rattle.tp_tree.specs.declared.tree.VerdictName.TheVariants as verdict_name
-use Rattle.tp_tree.specs.declared.tree.Variable.{Variable}
-use Rattle.tp_tree.specs.declared.tree.Statement.{Statement as StatementText}
-use Rattle.tp_tree.specs.declared.tree.Action.{Action}
-use Rattle.tp_tree.specs.declared.tree.Action.TheVariants as action
-use Rattle.tp_tree.specs.declared.tree.Branch.{Branch as BranchText}
-use Rattle.tp_tree.specs.declared.tree.BranchBody.{BranchBody}
-use Rattle.tp_tree.specs.declared.tree.BranchBody.TheVariants as branch_body
+use Rattle.tp_tree.specs.declared.message.{TypeName.TypeName, Message.Message, MessageTemplate.MessageTemplate}
+use Rattle.tp_tree.specs.declared.tree.{ComponentName.ComponentName, SentExpression.SentExpression, Receivers.Receivers}
+use Rattle.tp_tree.specs.declared.tree.{Send.Send, Receive.Receive, Control.Control, VerdictName.VerdictName}
+use Rattle.tp_tree.specs.declared.tree.{Variable.Variable, Statement.Statement as StatementText, Action.Action}
+use Rattle.tp_tree.specs.declared.tree.{Branch.Branch as BranchText, BranchBody.BranchBody}
 use Rattle.tp_tree.specs.declared.tree.ElseBranch.{ElseBranch, out-ElseBranch}
 use Rattle.tp_tree.specs.declared.tree.Counted.{Counted, out-Counted}
-use Rattle.tp_play.specs.declared.body.SendMsg.{SendMsg}
-use Rattle.tp_play.specs.declared.body.SendValue.TheVariants as send_value
-use Rattle.tp_play.specs.declared.body.RecvTemplate.{RecvTemplate}
-use Rattle.tp_play.specs.declared.body.RecvMsg.{RecvMsg}
-use Rattle.tp_play.specs.declared.body.RecvMsg.TheVariants as recv_msg
-use Rattle.tp_play.specs.declared.body.Sent.{Sent}
-use Rattle.tp_play.specs.declared.body.Sent.TheVariants as s
-use Rattle.tp_play.specs.declared.body.Receiver.{Receiver}
-use Rattle.tp_play.specs.declared.body.Receiver.TheVariants as to
-use Rattle.tp_play.specs.declared.body.SendOperation.{SendOperation}
-use Rattle.tp_play.specs.declared.body.Receiving.{Receiving}
-use Rattle.tp_play.specs.declared.body.ResolvedStatement.{ResolvedStatement}
-use Rattle.tp_play.specs.declared.body.ResolvedStatement.TheVariants as statement
-use Rattle.tp_play.specs.declared.body.ResolvedBranch.{ResolvedBranch}
+use Rattle.tp_tree.specs.declared.tree.ComponentName.TheVariants as component_name
+use Rattle.tp_tree.specs.declared.tree.SentExpression.TheVariants as sent
+use Rattle.tp_tree.specs.declared.tree.Receivers.TheVariants as destination
+use Rattle.tp_common.specs.declared.operation.PortOperation.{PortOperation}
+use Rattle.tp_tree.specs.declared.tree.VerdictName.TheVariants as verdict_name
+use Rattle.tp_tree.specs.declared.tree.Action.TheVariants as action
+use Rattle.tp_tree.specs.declared.tree.BranchBody.TheVariants as branch_body
+use Rattle.tp_play.specs.declared.body.{SendMsg.SendMsg, RecvTemplate.RecvTemplate, RecvMsg.RecvMsg, Sent.Sent}
+use Rattle.tp_play.specs.declared.body.{Receiver.Receiver, SendOperation.SendOperation, Receiving.Receiving, Body.Body}
+use Rattle.tp_play.specs.declared.body.{ResolvedStatement.ResolvedStatement, ResolvedBranch.ResolvedBranch}
 use Rattle.tp_play.specs.declared.body.VariableType.{VariableType}
+use Rattle.tp_play.specs.declared.body.SendValue.TheVariants as send_value
+use Rattle.tp_play.specs.declared.body.RecvMsg.TheVariants as recv_msg
+use Rattle.tp_play.specs.declared.body.Sent.TheVariants as s
+use Rattle.tp_play.specs.declared.body.Receiver.TheVariants as to
+use Rattle.tp_play.specs.declared.body.ResolvedStatement.TheVariants as statement
 use Rattle.tp_play.specs.declared.body.VariableType.TheVariants as variable_type
-use Rattle.tp_play.specs.declared.body.Body.{Body}
 use Rattle.tp_checks.specs.declared.scope.BehaviourKind.TheVariants as behaviour_kind
-use Rattle.tp_checks.specs.declared.scope.Scope.{Scope}
 use Rattle.tp_checks.specs.declared.scope.Variables.{Variables}
-use Rattle.tp_checks.specs.Named.{IsPlace, IsAbsent}
+use Rattle.tp_checks.specs.{Named.IsPlace, Named.IsAbsent, Scoping.AreNoPorts, Scoping.IsNew, Scoping.Visible}
 use Rattle.tp_checks.specs.Scoping.{IsPortNamed, sendable_types, receivable_types, IsType, IsVariable, IsReference}
-use Rattle.tp_checks.specs.Scoping.{IsNew, declared_port_names}
 use Rattle.tp_checks.specs.Messages.{IsMessage, IsTemplate}
 
 -- what is sent, given the types that can be sent at the port
-pub data IsSent (scope : Scope) (variables : Variables) (turns : List (List ℕ)) (sendable : List Ty)
+pub data IsSent (scope : Visible) (variables : Variables) (turns : List (List ℕ)) (sendable : List Ty)
     : SentExpression → Sent → Type 0 where
-  written : (x : Message) (m : SendMsg) → IsMessage scope.types.now turns x m → Contains sendable m.ty
+  written : (x : Message) (m : SendMsg) → IsMessage scope.types turns x m → Contains sendable m.ty
       → IsSent scope variables turns sendable (sent.Message x) (s.Written m)
   -- what a loop variable holds, as an integer
   counter : (n : List ℕ) (k : ℕ) → IsPlace turns n k → Contains sendable ty.Integer
@@ -72,7 +53,7 @@ pub data IsSent (scope : Scope) (variables : Variables) (turns : List (List ℕ)
       → IsSent scope variables turns sendable (sent.Variable n) (s.Variable k)
 
 -- the receivers of a send
-pub data IsReceiver (scope : Scope) (variables : Variables) (turns : List (List ℕ))
+pub data IsReceiver (scope : Visible) (variables : Variables) (turns : List (List ℕ))
     : Option Receivers → Receiver → Type 0 where
   nobody : IsReceiver scope variables turns None to.Nobody
   reference : (x : ComponentName) (k : ℕ) → IsReference scope variables turns x k
@@ -83,23 +64,23 @@ pub data IsReceiver (scope : Scope) (variables : Variables) (turns : List (List 
   all : IsReceiver scope variables turns (Some destination.AllComponents) to.All
 
 -- a send: the port is known, and its type lists the type of what is sent
-pub record IsSend (scope : Scope) (variables : Variables) (turns : List (List ℕ)) (x : Send) (y : SendOperation)
+pub record IsSend (scope : Visible) (variables : Variables) (turns : List (List ℕ)) (x : Send) (y : SendOperation)
     : Type 0 where
   pub port : PortType
-  pub port_known : IsPortNamed scope.component_type.now x.port y.port port
+  pub port_known : IsPortNamed scope x.port y.port port
   pub sent : IsSent scope variables turns (sendable_types scope.behaviour port) x.sent y.sent
   pub receiver : IsReceiver scope variables turns x.to y.to
 
 -- a wanted message, given the types that can be received at the port
-pub data IsWanted (scope : Scope) (turns : List (List ℕ)) (receivable : List Ty)
+pub data IsWanted (scope : Visible) (turns : List (List ℕ)) (receivable : List Ty)
     : Option MessageTemplate → RecvMsg → Type 0 where
   every_message : IsWanted scope turns receivable None recv_msg.Any
-  matching : (x : MessageTemplate) (u : Ty) (r : RecvTemplate) → IsType scope.types.now x.type_name u
-      → Contains receivable u → IsTemplate scope.types.now turns u x.template r
+  matching : (x : MessageTemplate) (u : Ty) (r : RecvTemplate) → IsType scope.types x.type_name u
+      → Contains receivable u → IsTemplate scope.types turns u x.template r
       → IsWanted scope turns receivable (Some x) (recv_msg.Of u r)
 
 -- the component after `from`, if there is one
-pub data IsFrom (scope : Scope) (variables : Variables) (turns : List (List ℕ))
+pub data IsFrom (scope : Visible) (variables : Variables) (turns : List (List ℕ))
     : Option ComponentName → Option ℕ → Type 0 where
   whoever : IsFrom scope variables turns None None
   this_one : (x : ComponentName) (k : ℕ) → IsReference scope variables turns x k
@@ -122,10 +103,10 @@ pub data IsSenderTarget (variables : Variables) (turns : List (List ℕ))
       → IsSenderTarget variables turns (Some n) (Some k)
 
 -- a receiving operation: the port is known, and its type lists the type of what is wanted
-pub record IsReceive (scope : Scope) (variables : Variables) (turns : List (List ℕ)) (x : Receive) (y : Receiving)
+pub record IsReceive (scope : Visible) (variables : Variables) (turns : List (List ℕ)) (x : Receive) (y : Receiving)
     : Type 0 where
   pub port : PortType
-  pub port_known : IsPortNamed scope.component_type.now x.port y.port port
+  pub port_known : IsPortNamed scope x.port y.port port
   pub same_kind : y.kind ≡ x.kind
   pub wants : IsWanted scope turns (receivable_types scope.behaviour port) x.template y.wanted
   pub from_known : IsFrom scope variables turns x.sender y.sender
@@ -141,14 +122,14 @@ pub data IsVerdict : VerdictName → Verdict → Type 0 where
 
 mutual
   -- a statement of the text stands for this one
-  pub data IsStatement (scope : Scope) (variables : Variables) : List (List ℕ) → Action → ResolvedStatement → Type 0 where
+  pub data IsStatement (scope : Visible) (variables : Variables) : List (List ℕ) → Action → ResolvedStatement → Type 0 where
     send : (turns : List (List ℕ)) (x : Send) (y : SendOperation) → IsSend scope variables turns x y
         → IsStatement scope variables turns (action.Send x) (statement.Send y)
     receive : (turns : List (List ℕ)) (x : Receive) (y : Receiving) → IsReceive scope variables turns x y
         → IsStatement scope variables turns (action.Receive x) (statement.Receive y)
     -- this statement and the next two aren't allowed in the system under test
     control : (turns : List (List ℕ)) (x : Control) (k : ℕ) (port : PortType)
-        → scope.behaviour ≢ behaviour_kind.SystemUnderTest → IsPortNamed scope.component_type.now x.port k port
+        → scope.behaviour ≢ behaviour_kind.SystemUnderTest → IsPortNamed scope x.port k port
         → IsStatement scope variables turns (action.Control x) (statement.Control k x.operation)
     all_ports : (turns : List (List ℕ)) (x : PortOperation) → scope.behaviour ≢ behaviour_kind.SystemUnderTest
         → IsStatement scope variables turns (action.AllPorts x) (statement.AllPorts x)
@@ -171,7 +152,7 @@ mutual
         → IsStatement scope variables turns (action.For x)
         (statement.For (out-Counted x).turns.first (out-Counted x).turns.bound block)
 
-  pub data IsBlock (scope : Scope) (variables : Variables)
+  pub data IsBlock (scope : Visible) (variables : Variables)
       : List (List ℕ) → List StatementText → List ResolvedStatement → Type 0 where
     no_statement : (turns : List (List ℕ)) → IsBlock scope variables turns [] []
     one_statement_more :
@@ -179,19 +160,19 @@ mutual
         → IsBlock scope variables turns xs ys → IsStatement scope variables turns x.action y
         → IsBlock scope variables turns (xs ++ x ∷ []) (ys ++ y ∷ [])
 
-  pub data IsBranch (scope : Scope) (variables : Variables) : List (List ℕ) → BranchText → ResolvedBranch → Type 0 where
+  pub data IsBranch (scope : Visible) (variables : Variables) : List (List ℕ) → BranchText → ResolvedBranch → Type 0 where
     branch : (turns : List (List ℕ)) (x : BranchText) (y : ResolvedBranch)
         → IsReceive scope variables turns x.receive y.receiving → IsAfter scope variables turns x.body y.block
         → IsBranch scope variables turns x y
 
   -- the rest of a branch after its operation: nothing, or a block
-  pub data IsAfter (scope : Scope) (variables : Variables) : List (List ℕ) → BranchBody → List ResolvedStatement → Type 0 where
+  pub data IsAfter (scope : Visible) (variables : Variables) : List (List ℕ) → BranchBody → List ResolvedStatement → Type 0 where
     nothing : (turns : List (List ℕ)) → IsAfter scope variables turns branch_body.Nothing []
     block : (turns : List (List ℕ)) (xs : List StatementText) (ys : List ResolvedStatement)
         → IsBlock scope variables turns xs ys
         → IsAfter scope variables turns (branch_body.Block xs) ys
 
-  pub data AreBranches (scope : Scope) (variables : Variables)
+  pub data AreBranches (scope : Visible) (variables : Variables)
       : List (List ℕ) → List BranchText → List ResolvedBranch → Type 0 where
     no_branch : (turns : List (List ℕ)) → AreBranches scope variables turns [] []
     one_branch_more : (turns : List (List ℕ)) (xs : List BranchText) (ys : List ResolvedBranch) (x : BranchText) (y : ResolvedBranch)
@@ -199,14 +180,14 @@ mutual
         → AreBranches scope variables turns (xs ++ x ∷ []) (ys ++ y ∷ [])
 
 -- the type of a variable: a type of messages, or a component type if no type of messages has the name
-pub data IsVariableType (scope : Scope) : TypeName → VariableType → Type 0 where
-  message : (x : TypeName) (u : Ty) → IsType scope.types.now x u → IsVariableType scope x (variable_type.Message u)
-  component : (n : List ℕ) (k : ℕ) → type_number scope.types.now n ≡ None
-      → IsPlace scope.component_types.now n k
+pub data IsVariableType (scope : Visible) : TypeName → VariableType → Type 0 where
+  message : (x : TypeName) (u : Ty) → IsType scope.types x u → IsVariableType scope x (variable_type.Message u)
+  component : (n : List ℕ) (k : ℕ) → type_number scope.types n ≡ None
+      → IsPlace scope.component_types n k
       → IsVariableType scope (type_name.Named n) variable_type.Component
 
 -- the variables of a body, each with a new name: 4,294,967,295 at most
-pub data AreVariables (scope : Scope) : List Variable → Variables → Type 0 where
+pub data AreVariables (scope : Visible) : List Variable → Variables → Type 0 where
   no_variable : (vs : Variables) → vs.names ≡ [] → vs.types ≡ [] → AreVariables scope [] vs
   one_variable_more : (xs : List Variable) (vs ws : Variables) (x : Variable) (held : VariableType)
       → AreVariables scope xs vs → length vs.names < 4294967295 → IsVariableType scope x.type_name held
@@ -215,10 +196,9 @@ pub data AreVariables (scope : Scope) : List Variable → Variables → Type 0 w
       → AreVariables scope (xs ++ x ∷ []) ws
 
 -- a body: no parameter has the name of a port, the variables come first, and the statements may use them
-pub record IsBody (scope : Scope) (xs : List Variable) (statements : List StatementText) (body : Body) : Type 0 where
+pub record IsBody (scope : Visible) (xs : List Variable) (statements : List StatementText) (body : Body) : Type 0 where
   pub variables : Variables
-  pub no_port : (k : ℕ) (name : List ℕ) → slice_get (declared_port_names scope.component_type.now) k ≡ Some name
-      → IsAbsent scope.parameters.now name
+  pub no_port : AreNoPorts scope
   pub declared : AreVariables scope xs variables
   pub same_types : body.variables ≡ variables.types
   pub block : IsBlock scope variables [] statements body.statements

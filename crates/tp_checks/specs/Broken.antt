@@ -1,22 +1,14 @@
 -- Which rule the names, definitions, setup and starts of a module break, and at which line.
 use Rattle.std.specs.Prelude.{◌≡◌, ℕ, List, [], ◌∷◌, map}
-use Rattle.tp_tree.specs.declared.tree.Module.{Module}
-use Rattle.tp_tree.specs.declared.tree.ComponentType.{ComponentType}
-use Rattle.tp_tree.specs.declared.tree.Function.{Function}
+use Rattle.tp_tree.specs.declared.tree.{Module.Module, ComponentType.ComponentType, Function.Function}
 use Rattle.tp_tree.specs.declared.tree.TestCase.{TestCase}
 use Rattle.tp_config.specs.declared.port_type.CompType.{CompType}
-use Rattle.tp_config.specs.Setup.{PortDecl, Setup}
-use Rattle.tp_config.specs.Shape.{ports_of}
+use Rattle.tp_config.specs.{Setup.PortDecl, Setup.Setup, Shape.ports_of}
 use Rattle.tp_checks.specs.declared.fault.ModuleRule.{ModuleRule}
 use Rattle.tp_checks.specs.Definitions.{BeginsAmong, component_type_names, component_types, functions, test_cases}
-use Rattle.tp_checks.specs.Rules.{HasUniqueNames}
-use Rattle.tp_checks.specs.Sorted.{HasSoundDefinitions}
-use Rattle.tp_checks.specs.Resolved.{AreComponentTypes}
-use Rattle.tp_checks.specs.Configuring.{AreSoundVariables, IsConfigBySetup}
-use Rattle.tp_checks.specs.BrokenNames.{NamesBreak}
-use Rattle.tp_checks.specs.BrokenDefinitions.{DefinitionsOfBreak}
-use Rattle.tp_checks.specs.BrokenSetup.{CaseSetupBreaks}
-use Rattle.tp_checks.specs.BrokenStarts.{StartsBreak}
+use Rattle.tp_checks.specs.{Rules.HasUniqueNames, Sorted.HasSoundDefinitions, Resolved.AreComponentTypes}
+use Rattle.tp_checks.specs.{Configuring.AreSoundVariables, Configuring.IsConfigBySetup, BrokenNames.NamesBreak}
+use Rattle.tp_checks.specs.{BrokenDefinitions.DefinitionsOfBreak, BrokenSetup.CaseSetupBreaks, BrokenStarts.StartsBreak}
 
 -- the module obeys the rules on names and definitions, and this is its test case, which begins at this line
 pub record IsDefinedWell (m : Module) (case : TestCase) (line : ℕ) : Type 0 where

@@ -1,9 +1,6 @@
 -- Which rule on definitions a module breaks, and at which line (ES 201 873-1, 6 and 16).
 use Rattle.std.specs.Prelude.{◌≡◌, ℕ, Option, List, ◌∷◌, ◌++◌, All}
-use Rattle.tp_tree.specs.declared.tree.Module.{Module}
-use Rattle.tp_tree.specs.declared.tree.Definition.{Definition}
-use Rattle.tp_tree.specs.declared.tree.Defined.{Defined}
-use Rattle.tp_tree.specs.declared.tree.TestCase.{TestCase}
+use Rattle.tp_tree.specs.declared.tree.{Module.Module, Definition.Definition, Defined.Defined, TestCase.TestCase}
 use Rattle.tp_checks.specs.declared.fault.ModuleRule.{ModuleRule}
 use Rattle.tp_checks.specs.declared.fault.ModuleRule.TheVariants.{Unknown, Limit, NotInSut}
 use Rattle.tp_checks.specs.Definitions.{component_type_names, port_type_names, type_names}

@@ -1,17 +1,13 @@
 -- Which rule on names a module breaks, and at which line (ES 201 873-1, 5.2.2).
 use Rattle.std.specs.Prelude.{◌≡◌, ◌≢◌, ◌<◌, ◌≤◌, ℕ, List, [], ◌∷◌, ◌++◌, Contains, length, map}
 use Rattle.std.specs.List.{flat_map}
-use Rattle.tp_tree.specs.declared.tree.Module.{Module}
-use Rattle.tp_tree.specs.declared.tree.Definition.{Definition}
-use Rattle.tp_tree.specs.declared.tree.Defined.{Defined}
+use Rattle.tp_tree.specs.declared.tree.{Module.Module, Definition.Definition, Defined.Defined}
+use Rattle.tp_tree.specs.declared.tree.{DeclaredName.DeclaredName, PortDeclaration.PortDeclaration}
 use Rattle.tp_tree.specs.declared.tree.Defined.TheVariants as defined
-use Rattle.tp_tree.specs.declared.tree.DeclaredName.{DeclaredName}
-use Rattle.tp_tree.specs.declared.tree.PortDeclaration.{PortDeclaration}
 use Rattle.tp_checks.specs.declared.fault.ModuleRule.{ModuleRule}
 use Rattle.tp_checks.specs.declared.fault.ModuleRule.TheVariants.{Unknown, Duplicate, Limit}
-use Rattle.tp_checks.specs.Tables.{IsNumbered}
+use Rattle.tp_checks.specs.{Tables.IsNumbered, Rules.AreNamed}
 use Rattle.tp_checks.specs.Definitions.{of_kind, case_of, declared, inner_names, name_of, test_cases}
-use Rattle.tp_checks.specs.Rules.{AreNamed}
 
 -- adding the name after these breaks this rule
 pub data NameBreaks (names : List (List ℕ)) (name : List ℕ) : ModuleRule → Type 0 where

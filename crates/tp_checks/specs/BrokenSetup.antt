@@ -1,27 +1,19 @@
 -- Which rule on setup a test case breaks, and at which line (ES 201 873-1, 9.1 and 21.1).
 use Rattle.std.specs.Prelude.{◌≡◌, ◌≢◌, ◌≤◌, ◌+◌, ℕ, Option, Some, IsSome, List, [], ◌∷◌, ◌++◌}
-use Rattle.std.specs.Prelude.{Contains, codes, length, map}
-use Rattle.std.specs.Option.{option_map}
-use Rattle.std.specs.List.{AllZip}
-use Rattle.tp_tree.specs.declared.tree.ComponentType.{ComponentType}
-use Rattle.tp_tree.specs.declared.tree.Creation.{Creation}
-use Rattle.tp_tree.specs.declared.tree.PairEnd.{PairEnd}
-use Rattle.tp_tree.specs.declared.tree.SetupAction.{SetupAction}
+use Rattle.std.specs.{Prelude.Contains, Prelude.codes, Prelude.length, Prelude.map, Option.option_map, List.AllZip}
+use Rattle.tp_tree.specs.declared.tree.{ComponentType.ComponentType, Creation.Creation, PairEnd.PairEnd}
+use Rattle.tp_tree.specs.declared.tree.{SetupAction.SetupAction, SetupStatement.SetupStatement, TestCase.TestCase}
 use Rattle.tp_tree.specs.declared.tree.SetupAction.TheVariants as setup_action
-use Rattle.tp_tree.specs.declared.tree.SetupStatement.{SetupStatement}
-use Rattle.tp_tree.specs.declared.tree.TestCase.{TestCase}
 use Rattle.tp_config.specs.declared.port_type.PortRef.{PortRef}
 use Rattle.tp_config.specs.declared.connecting.ConnectFault.{ConnectFault}
 use Rattle.tp_config.specs.declared.mapping.MapFault.{MapFault}
-use Rattle.tp_config.specs.Setup.{Setup, PortDecl}
-use Rattle.tp_config.specs.Causes.{ConnectRefused, MapRefused}
+use Rattle.tp_config.specs.{Setup.Setup, Setup.PortDecl, Causes.ConnectRefused, Causes.MapRefused}
 use Rattle.tp_config.specs.Faults.{connect_refusal, map_refusal}
 use Rattle.tp_checks.specs.declared.fault.ModuleRule.{ModuleRule}
 use Rattle.tp_checks.specs.declared.fault.ModuleRule.TheVariants.{Unknown, Duplicate, WrongType, Limit}
-use Rattle.tp_checks.specs.Told.{rule_refusal}
+use Rattle.tp_checks.specs.{Told.rule_refusal, Configuring.IsPortOfEnd, Configuring.Makes, Configuring.most_variables}
 use Rattle.tp_checks.specs.Components.{HasPorts, HasSoundVariables, IsMember, IsSoundVariable, created, creation_of}
 use Rattle.tp_checks.specs.Components.{creations, interface, main_component, variable_name, variables}
-use Rattle.tp_checks.specs.Configuring.{IsPortOfEnd, Makes, most_variables}
 
 -- the `var` of a component breaks this rule, given the names of the component types, of the main component's ports, of
 -- other components and of the variables before it, and the greatest number of variables

@@ -1,24 +1,16 @@
 -- Which rule on the starts of the components a test case breaks, and at which line (ES 201 873-1, 21.3.2).
 use Rattle.std.specs.Prelude.{◌≡◌, ◌≢◌, ◌≤◌, ◌+◌, ℕ, Some, None, List, [], ◌∷◌, ◌++◌, All, Contains}
-use Rattle.std.specs.Prelude.{length, map, slice_get, take}
-use Rattle.std.specs.List.{AllZip}
-use Rattle.tp_tree.specs.declared.tree.ComponentName.{ComponentName}
-use Rattle.tp_tree.specs.declared.tree.ComponentStart.{ComponentStart}
-use Rattle.tp_tree.specs.declared.tree.Creation.{Creation}
-use Rattle.tp_tree.specs.declared.tree.Function.{Function}
-use Rattle.tp_tree.specs.declared.tree.Parameter.{Parameter}
-use Rattle.tp_tree.specs.declared.tree.SetupStatement.{SetupStatement}
+use Rattle.std.specs.{Prelude.length, Prelude.map, Prelude.slice_get, Prelude.take, List.AllZip}
+use Rattle.tp_tree.specs.declared.tree.{ComponentName.ComponentName, ComponentStart.ComponentStart, Creation.Creation}
+use Rattle.tp_tree.specs.declared.tree.{Function.Function, Parameter.Parameter, SetupStatement.SetupStatement}
 use Rattle.tp_tree.specs.declared.tree.TestCase.{TestCase}
 use Rattle.tp_config.specs.declared.port_type.CompId.{CompId}
-use Rattle.tp_checks.specs.declared.fault.ModuleRule.{ModuleRule}
+use Rattle.tp_checks.specs.declared.fault.{ModuleRule.ModuleRule, ModuleRule.TheVariants.NotStarted}
 use Rattle.tp_checks.specs.declared.fault.ModuleRule.TheVariants.{Unknown, WrongType, Limit, NotInSut, NoDone}
-use Rattle.tp_checks.specs.declared.fault.ModuleRule.TheVariants.{NotStarted}
-use Rattle.tp_checks.specs.Tables.{IsNumbered, place_of_name}
-use Rattle.tp_checks.specs.declared.starts.StartedComponent.{StartedComponent}
+use Rattle.tp_checks.specs.{Tables.IsNumbered, Tables.place_of_name, Rules.sut, Starting.type_names_of}
 use Rattle.tp_checks.specs.Components.{creation_of, creations, variable_name, variables}
-use Rattle.tp_checks.specs.Rules.{sut}
 use Rattle.tp_checks.specs.Starting.{HasParameterType, IsArgument, IsStartOf, component_named, started_names}
-use Rattle.tp_checks.specs.Starting.{type_names_of}
+use Rattle.tp_checks.specs.declared.starts.StartedComponent.{StartedComponent}
 
 -- an argument breaks this rule, given its parameter, the names of the component variables, and the names of the
 -- components' types

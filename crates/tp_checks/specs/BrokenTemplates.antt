@@ -1,37 +1,29 @@
 -- Which rule is broken by a template that stands for nothing: that of its first fault in the order of the text.
 use Rattle.std.specs.Prelude.{◌≡◌, ◌≢◌, ℕ, ℤ, Bool, List, length, map, take, All, Option, Some, None, slice_get}
-use Rattle.tp_value.specs.declared.types.Ty.{Ty}
+use Rattle.tp_value.specs.declared.types.{Ty.Ty, Field.Field, Types.Types}
 use Rattle.tp_value.specs.declared.types.Ty.TheVariants as ty
-use Rattle.tp_value.specs.declared.types.Field.{Field}
 use Rattle.tp_value.specs.declared.types.TypeDef.TheVariants as type_def
-use Rattle.tp_value.specs.declared.types.Types.{Types}
-use Rattle.tp_value.specs.Types.{named}
-use Rattle.tp_value.specs.Fits.{AreOrdered}
-use Rattle.tp_tree.specs.declared.message.Template.{Template}
+use Rattle.tp_value.specs.{Types.named, Fits.AreOrdered}
+use Rattle.tp_tree.specs.declared.message.{Template.Template, TemplateField.TemplateField}
 use Rattle.tp_tree.specs.declared.message.Template.TheVariants as template
-use Rattle.tp_tree.specs.declared.message.TemplateField.{TemplateField}
 use Rattle.tp_play.specs.declared.body.RecvTemplate.{RecvTemplate}
 use Rattle.tp_checks.specs.declared.fault.ModuleRule.{ModuleRule}
 use Rattle.tp_checks.specs.declared.fault.ModuleRule.TheVariants as rule
 use Rattle.tp_checks.specs.declared.scope.Variables.{Variables}
-use Rattle.tp_checks.specs.Placing.{HaveEntries}
+use Rattle.tp_checks.specs.{Placing.IsEntry, Placing.HaveEntries, BrokenValues.TextBreaks, BrokenValues.ValueNameBreaks}
 use Rattle.tp_checks.specs.Messages.{IsTemplate, AreMembers, AreElementTemplates, AreFieldTemplates}
-use Rattle.tp_checks.specs.BrokenValues.{TextBreaks, ValueNameBreaks}
 
 -- a range: the wanted type isn't `integer`, or the lower bound is above the upper one (13)
 pub data RangeBreaks (u : Ty) (low high : Option ℤ) : ModuleRule → Type 0 where
   no_range : u ≢ ty.Integer → RangeBreaks u low high rule.WrongType
   disordered : u ≡ ty.Integer → (AreOrdered low high → ⊥) → RangeBreaks u low high rule.WrongType
 
--- an entry of a record template that fits the field of its name
-pub record IsTemplateEntry (types : Types) (turns : List (List ℕ)) (fields : List Field) (x : TemplateField)
-    : Type 0 where
-  pub place : ℕ
-  pub field : Field
-  pub made : RecvTemplate
-  pub declared : slice_get fields place ≡ Some field
-  pub same_name : x.name ≡ field.name
-  pub fits : IsTemplate types turns field.ty x.template made
+-- what the entry of a field stands for
+abbrev pub IsTemplateOf : Types → List (List ℕ) → Field → TemplateField → RecvTemplate → Type 0
+IsTemplateOf types turns f x y = IsTemplate types turns f.ty x.template y
+
+abbrev pub IsTemplateEntry : Types → List (List ℕ) → List Field → TemplateField → Type 0
+IsTemplateEntry types turns = IsEntry (λ (x : TemplateField). x.name) (IsTemplateOf types turns)
 
 -- a template that should have this type: it is of another type (13), or a part of it breaks a rule
 mutual

@@ -1,22 +1,17 @@
 -- Which rule is broken by a value that stands for nothing: that of its first fault in the order of the text.
 use Rattle.std.specs.Prelude.{◌≡◌, ◌≢◌, ℕ, ℤ, Bool, List, length, map, take, All, Contains, Some, None, slice_get}
-use Rattle.tp_value.specs.declared.types.Ty.{Ty}
+use Rattle.tp_value.specs.declared.types.{Ty.Ty, Field.Field, Types.Types}
 use Rattle.tp_value.specs.declared.types.Ty.TheVariants as ty
-use Rattle.tp_value.specs.declared.types.Field.{Field}
 use Rattle.tp_value.specs.declared.types.TypeDef.TheVariants as type_def
-use Rattle.tp_value.specs.declared.types.Types.{Types}
-use Rattle.tp_value.specs.Types.{named}
-use Rattle.tp_value.specs.HasType.{ArePrintable}
-use Rattle.tp_tree.specs.declared.message.Value.{Value}
+use Rattle.tp_value.specs.{Types.named, HasType.ArePrintable}
+use Rattle.tp_tree.specs.declared.message.{Value.Value, ValueField.ValueField}
 use Rattle.tp_tree.specs.declared.message.Value.TheVariants as value
-use Rattle.tp_tree.specs.declared.message.ValueField.{ValueField}
 use Rattle.tp_play.specs.declared.body.SendValue.{SendValue}
 use Rattle.tp_checks.specs.declared.fault.ModuleRule.{ModuleRule}
 use Rattle.tp_checks.specs.declared.fault.ModuleRule.TheVariants as rule
-use Rattle.tp_checks.specs.Named.{IsPlace, IsAbsent}
-use Rattle.tp_checks.specs.declared.scope.Variables.{Variables}
-use Rattle.tp_checks.specs.Placing.{HaveEntries}
+use Rattle.tp_checks.specs.{Named.IsPlace, Named.IsAbsent, Placing.IsEntry, Placing.HaveEntries}
 use Rattle.tp_checks.specs.Messages.{IsValue, AreElements, AreFields}
+use Rattle.tp_checks.specs.declared.scope.Variables.{Variables}
 
 -- a text: the wanted type isn't `charstring`, or the text contains a character that can't be printed (13)
 pub data TextBreaks (u : Ty) (text : List ℕ) : ModuleRule → Type 0 where
@@ -30,14 +25,12 @@ pub data ValueNameBreaks (variables : Variables) (turns : List (List ℕ)) (u : 
   variable : IsAbsent turns name → Contains variables.names name → ValueNameBreaks variables turns u name rule.WrongType
   unknown : IsAbsent turns name → (Contains variables.names name → ⊥) → ValueNameBreaks variables turns u name rule.Unknown
 
--- an entry of a record that fits the field of its name
-pub record IsEntry (types : Types) (turns : List (List ℕ)) (fields : List Field) (x : ValueField) : Type 0 where
-  pub place : ℕ
-  pub field : Field
-  pub made : SendValue
-  pub declared : slice_get fields place ≡ Some field
-  pub same_name : x.name ≡ field.name
-  pub fits : IsValue types turns field.ty x.value made
+-- what the entry of a field stands for
+abbrev pub IsValueOf : Types → List (List ℕ) → Field → ValueField → SendValue → Type 0
+IsValueOf types turns f x y = IsValue types turns f.ty x.value y
+
+abbrev pub IsValueEntry : Types → List (List ℕ) → List Field → ValueField → Type 0
+IsValueEntry types turns = IsEntry (λ (x : ValueField). x.name) (IsValueOf types turns)
 
 -- a value that should have this type: it is of another type (13), or a part of it breaks a rule
 mutual
@@ -90,6 +83,6 @@ mutual
         → (HaveEntries fields (map (λ v. v.name) vs) → ⊥)
         → EntriesBreak types variables turns fields vs rule.WrongType
     entry : (fields : List Field) (vs : List ValueField) (i k : ℕ) (f : Field) (x : ValueField) (r : ModuleRule)
-        → HaveEntries fields (map (λ v. v.name) vs) → All (IsEntry types turns fields) (take i vs)
+        → HaveEntries fields (map (λ v. v.name) vs) → All (IsValueEntry types turns fields) (take i vs)
         → slice_get vs i ≡ Some x → slice_get fields k ≡ Some f → x.name ≡ f.name
         → ValueBreaks types variables turns f.ty x.value r → EntriesBreak types variables turns fields vs r

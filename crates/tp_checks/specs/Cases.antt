@@ -1,6 +1,5 @@
 -- The test case that was found.
-use Rattle.std.specs.Prelude.{Option, List, option_to_list}
-use Rattle.std.specs.Option.{option_map}
+use Rattle.std.specs.{Prelude.Option, Prelude.List, Prelude.option_to_list, Option.option_map}
 use Rattle.tp_tree.specs.declared.tree.TestCase.{TestCase}
 use Rattle.tp_checks.specs.declared.unique_names.CaseAt.{CaseAt}
 

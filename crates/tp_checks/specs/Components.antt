@@ -1,21 +1,16 @@
 -- The components of a test case.
 use Rattle.std.specs.Prelude.{◌≡◌, ◌≤◌, ◌<◌, ◌+◌, true, ℕ, Option, Some, None, List, [], ◌∷◌, ◌++◌, All, Contains}
-use Rattle.std.specs.Prelude.{codes, length, map, option_to_list}
-use Rattle.std.specs.Option.{option_map}
+use Rattle.std.specs.{Prelude.codes, Prelude.length, Prelude.map, Prelude.option_to_list, Option.option_map}
 use Rattle.std.specs.List.{AllZip, filter_map}
-use Rattle.tp_tree.specs.declared.tree.ComponentType.{ComponentType}
-use Rattle.tp_tree.specs.declared.tree.Creation.{Creation}
-use Rattle.tp_tree.specs.declared.tree.SetupStatement.{SetupStatement}
-use Rattle.tp_tree.specs.declared.tree.SetupAction.{SetupAction}
+use Rattle.tp_tree.specs.declared.tree.{ComponentType.ComponentType, Creation.Creation, SetupStatement.SetupStatement}
+use Rattle.tp_tree.specs.declared.tree.{SetupAction.SetupAction, TestCase.TestCase}
 use Rattle.tp_tree.specs.declared.tree.SetupAction.TheVariants as setup_action
-use Rattle.tp_tree.specs.declared.tree.TestCase.{TestCase}
-use Rattle.tp_config.specs.declared.port_type.CompId.{CompId}
-use Rattle.tp_config.specs.declared.port_type.Role.{Role}
+use Rattle.tp_config.specs.declared.port_type.{CompId.CompId, Role.Role}
 use Rattle.tp_config.specs.declared.port_type.Role.TheVariants as role
 use Rattle.tp_config.specs.Setup.{Setup, Member, creating, is_system_role, names_of_components}
 use Rattle.tp_config.specs.Causes.{HasSystem}
-use Rattle.tp_checks.specs.Tables.{AreDistinct, IsNumbered, place_of_name}
-use Rattle.tp_checks.specs.Definitions.{declared_ports}
+use Rattle.tp_checks.specs.declared.components.DeclaredComponent.{DeclaredComponent}
+use Rattle.tp_checks.specs.{Tables.AreDistinct, Tables.IsNumbered, Tables.place_of_name, Definitions.declared_ports}
 
 abbrev pub creation_in : SetupAction → Option Creation
 creation_in (setup_action.Create c) = Some c
@@ -42,6 +37,9 @@ pub record Declared : Type 0 where
   pub name : List ℕ
   pub type_name : List ℕ
   pub role : Role
+
+abbrev pub declared_as : DeclaredComponent → Declared
+declared_as x = record { name = x.name.now; type_name = x.type_name.now; role = x.role }
 
 abbrev pub created : Creation → Declared
 created c = record { name = variable_name c; type_name = c.type_name; role = role.Test }

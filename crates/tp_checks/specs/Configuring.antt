@@ -1,21 +1,14 @@
 -- The configuration that the setup statements of a test case make (ES 201 873-1, 21.1).
 use Rattle.std.specs.Prelude.{◌≡◌, ℕ, ◌+◌, Option, Some, List, [], ◌∷◌, ◌++◌, if◌then◌else◌, All}
-use Rattle.std.specs.Prelude.{is_some, length, map, slice_get}
-use Rattle.std.specs.Option.{option_map}
-use Rattle.std.specs.List.{AllZip}
-use Rattle.tp_tree.specs.declared.tree.PairEnd.{PairEnd}
-use Rattle.tp_tree.specs.declared.tree.EndComponent.{EndComponent}
+use Rattle.std.specs.{Prelude.is_some, Prelude.length, Prelude.map, Prelude.slice_get, Option.option_map, List.AllZip}
+use Rattle.tp_tree.specs.declared.tree.{PairEnd.PairEnd, EndComponent.EndComponent, SetupStatement.SetupStatement}
+use Rattle.tp_tree.specs.declared.tree.{SetupAction.SetupAction, TestCase.TestCase, ComponentType.ComponentType}
 use Rattle.tp_tree.specs.declared.tree.EndComponent.TheVariants as end_component
-use Rattle.tp_tree.specs.declared.tree.SetupStatement.{SetupStatement}
-use Rattle.tp_tree.specs.declared.tree.SetupAction.{SetupAction}
 use Rattle.tp_tree.specs.declared.tree.SetupAction.TheVariants as setup_action
-use Rattle.tp_tree.specs.declared.tree.TestCase.{TestCase}
-use Rattle.tp_tree.specs.declared.tree.ComponentType.{ComponentType}
 use Rattle.tp_config.specs.declared.port_type.PortRef.{PortRef}
 use Rattle.tp_config.specs.Setup.{Setup, PortDecl, IsPort, empty_setup, connecting, mapping, port_names}
 use Rattle.tp_config.specs.Allowed.{CanConnect, CanMap}
-use Rattle.tp_checks.specs.Tables.{AreDistinct, place_of_name}
-use Rattle.tp_checks.specs.Definitions.{declared_ports}
+use Rattle.tp_checks.specs.{Tables.AreDistinct, Tables.place_of_name, Definitions.declared_ports}
 use Rattle.tp_checks.specs.Components.{AddsAll, HaveDistinctPorts, Declared, HasPorts, HasSoundVariables, IsMember}
 use Rattle.tp_checks.specs.Components.{component_list, created, creations, main_component, variables}
 

@@ -2,8 +2,7 @@
 use Rattle.std.specs.Prelude.{◌≤◌, All, length}
 use Rattle.tp_tree.specs.declared.tree.Module.{Module}
 use Rattle.tp_checks.specs.declared.definitions.Definitions.{Definitions}
-use Rattle.tp_checks.specs.Sorted.{AreSorted}
-use Rattle.tp_checks.specs.Resolved.{AreTypes, AreComponentTypes}
+use Rattle.tp_checks.specs.{Sorted.AreSorted, Resolved.AreTypes, Resolved.AreComponentTypes}
 
 -- the definitions are sorted, and the types and component types are those of the module and nothing else
 pub record IsDefined (m : Module) (d : Definitions) : Type 0 where

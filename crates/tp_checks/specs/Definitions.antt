@@ -1,16 +1,10 @@
 -- The definitions of a module, as lists in the order of the text (ES 201 873-1, 8).
 use Rattle.std.specs.Prelude.{◌≡◌, ℕ, Option, Some, None, List, [], Contains, map}
 use Rattle.std.specs.List.{filter_map, flat_map}
-use Rattle.tp_tree.specs.declared.tree.Module.{Module}
-use Rattle.tp_tree.specs.declared.tree.Definition.{Definition}
-use Rattle.tp_tree.specs.declared.tree.Defined.{Defined}
+use Rattle.tp_tree.specs.declared.tree.{Module.Module, Definition.Definition, Defined.Defined, PortType.PortType}
+use Rattle.tp_tree.specs.declared.tree.{ComponentType.ComponentType, Function.Function, TestCase.TestCase}
+use Rattle.tp_tree.specs.declared.tree.{DeclaredName.DeclaredName, PortDeclaration.PortDeclaration}
 use Rattle.tp_tree.specs.declared.tree.Defined.TheVariants as defined
-use Rattle.tp_tree.specs.declared.tree.PortType.{PortType}
-use Rattle.tp_tree.specs.declared.tree.ComponentType.{ComponentType}
-use Rattle.tp_tree.specs.declared.tree.Function.{Function}
-use Rattle.tp_tree.specs.declared.tree.TestCase.{TestCase}
-use Rattle.tp_tree.specs.declared.tree.DeclaredName.{DeclaredName}
-use Rattle.tp_tree.specs.declared.tree.PortDeclaration.{PortDeclaration}
 
 -- the name of a definition
 abbrev pub name_of : Defined → List ℕ

@@ -1,31 +1,20 @@
 -- What the values and templates of the text stand for. A value or a template with a fault stands for nothing.
 use Rattle.std.specs.Prelude.{◌≡◌, ℕ, ℤ, Bool, List, [], ◌∷◌, ◌++◌, map, Option, Some, slice_get, FitsSigned, length}
-use Rattle.std.specs.Prelude.{nat_eq, if◌then◌else◌}
-use Rattle.std.specs.Int.{w64}
-use Rattle.tp_value.specs.declared.types.Ty.{Ty}
+use Rattle.std.specs.{Prelude.nat_eq, Prelude.if◌then◌else◌, Int.w64}
+use Rattle.tp_value.specs.declared.types.{Ty.Ty, Field.Field, Types.Types}
 use Rattle.tp_value.specs.declared.types.Ty.TheVariants as ty
-use Rattle.tp_value.specs.declared.types.Field.{Field}
 use Rattle.tp_value.specs.declared.types.TypeDef.TheVariants as type_def
-use Rattle.tp_value.specs.declared.types.Types.{Types}
 use Rattle.tp_value.specs.declared.template.PatternPart.{PatternPart}
 use Rattle.tp_value.specs.declared.template.PatternPart.TheVariants as pattern_part
-use Rattle.tp_value.specs.Types.{named}
-use Rattle.tp_value.specs.HasType.{ArePrintable}
-use Rattle.tp_value.specs.Fits.{AreOrdered}
-use Rattle.tp_tree.specs.declared.message.Value.{Value}
-use Rattle.tp_tree.specs.declared.message.Value.TheVariants as value
-use Rattle.tp_tree.specs.declared.message.ValueField.{ValueField}
-use Rattle.tp_tree.specs.declared.message.Template.{Template}
-use Rattle.tp_tree.specs.declared.message.Template.TheVariants as template
+use Rattle.tp_value.specs.{Types.named, HasType.ArePrintable, Fits.AreOrdered}
+use Rattle.tp_tree.specs.declared.message.{Value.Value, ValueField.ValueField, Template.Template, Message.Message}
 use Rattle.tp_tree.specs.declared.message.TemplateField.{TemplateField}
-use Rattle.tp_tree.specs.declared.message.Message.{Message}
-use Rattle.tp_play.specs.declared.body.SendValue.{SendValue}
+use Rattle.tp_tree.specs.declared.message.Value.TheVariants as value
+use Rattle.tp_tree.specs.declared.message.Template.TheVariants as template
+use Rattle.tp_play.specs.declared.body.{SendValue.SendValue, SendMsg.SendMsg, RecvTemplate.RecvTemplate}
 use Rattle.tp_play.specs.declared.body.SendValue.TheVariants as send_value
-use Rattle.tp_play.specs.declared.body.SendMsg.{SendMsg}
-use Rattle.tp_play.specs.declared.body.RecvTemplate.{RecvTemplate}
 use Rattle.tp_play.specs.declared.body.RecvTemplate.TheVariants as recv_template
-use Rattle.tp_checks.specs.Named.{IsPlace}
-use Rattle.tp_checks.specs.Scoping.{IsType}
+use Rattle.tp_checks.specs.{Named.IsPlace, Scoping.IsType}
 
 -- a value fits a type and stands for this, given the names of the loop variables, outermost first
 mutual

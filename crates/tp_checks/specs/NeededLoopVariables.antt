@@ -1,11 +1,9 @@
 -- How many loop variables statements need.
 use Rattle.std.specs.Prelude.{ℕ, ◌-◌, List, Option, None, Some, map, max}
-use Rattle.tp_play.specs.declared.body.Sent.{Sent}
-use Rattle.tp_play.specs.declared.body.Sent.TheVariants as sent
-use Rattle.tp_play.specs.declared.body.ResolvedStatement.{ResolvedStatement}
-use Rattle.tp_play.specs.declared.body.ResolvedStatement.TheOpen as o
+use Rattle.tp_play.specs.declared.body.{Sent.Sent, ResolvedStatement.ResolvedStatement, ResolvedBranch.ResolvedBranch}
 use Rattle.tp_play.specs.declared.body.ResolvedStatement.TheFolds.{fold-ResolvedBranch, fold-ResolvedStatement}
-use Rattle.tp_play.specs.declared.body.ResolvedBranch.{ResolvedBranch}
+use Rattle.tp_play.specs.declared.body.Sent.TheVariants as sent
+use Rattle.tp_play.specs.declared.body.ResolvedStatement.TheOpen as o
 use Rattle.tp_play.specs.Fills.{greatest, needed, needed_by_wanted}
 
 -- how many loop variables need values when this is sent

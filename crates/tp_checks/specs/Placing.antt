@@ -19,6 +19,16 @@ pub record HaveEntries (fields : List Field) (names : List (List ℕ)) : Type 0 
   pub count : length names ≡ length fields
   pub each : All (Contains names) (field_names fields)
 
+-- an entry of a record that fits the field of its name, given what an entry of a field stands for
+pub record IsEntry {E W : Type 0} (name : E → List ℕ) (stands : Field → E → W → Type 0) (fields : List Field) (x : E)
+    : Type 0 where
+  pub place : ℕ
+  pub field : Field
+  pub made : W
+  pub declared : slice_get fields place ≡ Some field
+  pub same_name : name x ≡ field.name
+  pub fits : stands field x made
+
 -- a table of the names of the fields: it holds none yet, or all of them in declared order
 abbrev pub IsTable : List Field → List (List ℕ) → Type 0
 IsTable fields names = (names ≡ []) ⊎ (names ≡ field_names fields)

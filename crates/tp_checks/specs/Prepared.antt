@@ -1,19 +1,14 @@
 -- What the first three passes of the checks require of a module, and what they make of it.
 use Rattle.std.specs.Prelude.{◌≡◌, ◌≤◌, List, [], ◌∷◌, All, length, map}
-use Rattle.tp_tree.specs.declared.tree.Module.{Module}
-use Rattle.tp_tree.specs.declared.tree.TestCase.{TestCase}
+use Rattle.tp_tree.specs.declared.tree.{Module.Module, TestCase.TestCase}
 use Rattle.tp_config.specs.declared.port_type.CompType.{CompType}
-use Rattle.tp_config.specs.Setup.{Setup}
-use Rattle.tp_config.specs.Shape.{ports_of}
+use Rattle.tp_config.specs.{Setup.Setup, Shape.ports_of}
 use Rattle.tp_checks.specs.declared.starts.Starts.{Starts}
 use Rattle.tp_checks.specs.declared.prepared.Prepared.{Prepared}
 use Rattle.tp_checks.specs.Definitions.{BeginsAmong, component_type_names, component_types, functions, test_cases}
-use Rattle.tp_checks.specs.Rules.{HasUniqueNames}
-use Rattle.tp_checks.specs.Sorted.{AreSorted, HasSoundDefinitions}
-use Rattle.tp_checks.specs.Resolved.{AreTypes, AreComponentTypes}
-use Rattle.tp_checks.specs.Components.{variables}
+use Rattle.tp_checks.specs.{Rules.HasUniqueNames, Sorted.AreSorted, Sorted.HasSoundDefinitions, Components.variables}
+use Rattle.tp_checks.specs.{Resolved.AreTypes, Resolved.AreComponentTypes, Starting.AreStarts}
 use Rattle.tp_checks.specs.Configuring.{AreSoundVariables, IsConfigBySetup}
-use Rattle.tp_checks.specs.Starting.{AreStarts}
 
 -- the configuration is that of the test case, over the component types of the module
 pub record IsConfigOf (m : Module) (case : TestCase) (config : Setup) : Type 0 where

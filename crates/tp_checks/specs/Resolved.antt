@@ -1,30 +1,18 @@
 -- The types and component types that definitions stand for (ES 201 873-1, 6.2).
 use Rattle.std.specs.Prelude.{◌≡◌, ℕ, Bool, true, false, if◌then◌else◌, Option, Some, List, [], ◌++◌, Contains}
-use Rattle.std.specs.Prelude.{map, option_map}
-use Rattle.std.specs.List.{AllZip, flat_map}
-use Rattle.tp_tree.specs.declared.tree.Module.{Module}
-use Rattle.tp_tree.specs.declared.tree.Defined.{Defined}
+use Rattle.std.specs.{Prelude.map, Prelude.option_map, List.AllZip, List.flat_map}
+use Rattle.tp_tree.specs.declared.tree.{Module.Module, Defined.Defined, FieldType.FieldType, Way.Way, PortType.PortType}
+use Rattle.tp_tree.specs.declared.tree.{Direction.Direction, PortDeclaration.PortDeclaration, DeclaredName.DeclaredName}
+use Rattle.tp_tree.specs.declared.tree.ComponentType.{ComponentType}
 use Rattle.tp_tree.specs.declared.tree.Defined.TheVariants as defined
 use Rattle.tp_tree.specs.declared.message.TypeName.{TypeName}
 use Rattle.tp_tree.specs.declared.message.TypeName.TheVariants as type_name
-use Rattle.tp_tree.specs.declared.tree.FieldType.{FieldType}
-use Rattle.tp_tree.specs.declared.tree.Way.{Way}
 use Rattle.tp_tree.specs.declared.tree.Way.TheVariants as way
-use Rattle.tp_tree.specs.declared.tree.Direction.{Direction}
-use Rattle.tp_tree.specs.declared.tree.PortType.{PortType}
-use Rattle.tp_tree.specs.declared.tree.PortDeclaration.{PortDeclaration}
-use Rattle.tp_tree.specs.declared.tree.ComponentType.{ComponentType}
-use Rattle.tp_value.specs.declared.types.Ty.{Ty}
+use Rattle.tp_value.specs.declared.types.{Ty.Ty, Field.Field, TypeDef.TypeDef, Types.Types}
 use Rattle.tp_value.specs.declared.types.Ty.TheVariants as ty
-use Rattle.tp_value.specs.declared.types.Field.{Field}
-use Rattle.tp_value.specs.declared.types.TypeDef.{TypeDef}
 use Rattle.tp_value.specs.declared.types.TypeDef.TheVariants as type_def
-use Rattle.tp_value.specs.declared.types.Types.{Types}
-use Rattle.tp_config.specs.declared.port_type.CompType.{CompType}
-use Rattle.tp_config.specs.declared.port_type.PortType.{PortType as PortLists}
-use Rattle.tp_tree.specs.declared.tree.DeclaredName.{DeclaredName}
-use Rattle.tp_config.specs.Setup.{PortDecl}
-use Rattle.tp_config.specs.Shape.{ports_of}
+use Rattle.tp_config.specs.declared.port_type.{CompType.CompType, PortType.PortType as PortLists}
+use Rattle.tp_config.specs.{Setup.PortDecl, Shape.ports_of}
 use Rattle.tp_checks.specs.Tables.{place_of_name}
 use Rattle.tp_checks.specs.Definitions.{name_of, type_definitions, type_names, port_types, component_types, declared}
 

@@ -1,24 +1,17 @@
 -- The rules on names and definitions.
 use Rattle.std.specs.Prelude.{◌≡◌, ◌<◌, ◌≤◌, ◌⊎◌, ℕ, Bool, Option, Some, List, [], All, Contains}
 use Rattle.std.specs.Prelude.{◌∷◌, IfSome, IsSome, IsTrue, codes, is_some, length, map}
-use Rattle.tp_tree.specs.declared.tree.Module.{Module}
-use Rattle.tp_tree.specs.declared.tree.Definition.{Definition}
-use Rattle.tp_tree.specs.declared.tree.Defined.{Defined}
+use Rattle.std.specs.List.{list_all}
+use Rattle.tp_tree.specs.declared.tree.{Module.Module, Definition.Definition, Defined.Defined, Function.Function}
+use Rattle.tp_tree.specs.declared.tree.{ComponentType.ComponentType, Direction.Direction, PortType.PortType}
+use Rattle.tp_tree.specs.declared.tree.TestCase.{TestCase}
 use Rattle.tp_tree.specs.declared.tree.Defined.TheVariants as defined
 use Rattle.tp_tree.specs.declared.message.TypeName.{TypeName}
-use Rattle.tp_tree.specs.declared.tree.ComponentType.{ComponentType}
-use Rattle.tp_tree.specs.declared.tree.Function.{Function}
-use Rattle.tp_tree.specs.declared.tree.Direction.{Direction}
-use Rattle.tp_tree.specs.declared.tree.PortType.{PortType}
-use Rattle.tp_tree.specs.declared.tree.TestCase.{TestCase}
 use Rattle.tp_checks.specs.declared.fault.ModuleRule.TheVariants.{Unknown, Limit}
-use Rattle.tp_checks.specs.declared.fault.ModuleFault.{ModuleFault}
-use Rattle.tp_checks.specs.declared.fault.ModuleFault.TheVariants.{Refused}
-use Rattle.std.specs.List.{list_all}
-use Rattle.tp_checks.specs.Tables.{AreDistinct, IsNumbered, place_of_name}
+use Rattle.tp_checks.specs.declared.fault.{ModuleFault.ModuleFault, ModuleFault.TheVariants.Refused}
+use Rattle.tp_checks.specs.{Tables.AreDistinct, Tables.IsNumbered, Tables.place_of_name, Resolved.ty_of}
 use Rattle.tp_checks.specs.Definitions.{of_kind, case_of, declared_ports, definition_names, inner_names, name_of}
 use Rattle.tp_checks.specs.Definitions.{test_cases, type_of}
-use Rattle.tp_checks.specs.Resolved.{ty_of}
 
 -- no name is given twice, and each has a number of 32 bits
 pub record HasUniqueNames (m : Module) : Type 0 where

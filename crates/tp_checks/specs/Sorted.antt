@@ -1,20 +1,12 @@
 -- The definitions of a module, sorted by their kinds.
-use Rattle.std.specs.Prelude.{◌≡◌, ℕ, Option, List, All, map}
-use Rattle.tp_tree.specs.declared.tree.Module.{Module}
-use Rattle.tp_tree.specs.declared.tree.Definition.{Definition}
-use Rattle.tp_tree.specs.declared.tree.Defined.{Defined}
-use Rattle.tp_tree.specs.declared.tree.PortType.{PortType}
-use Rattle.tp_tree.specs.declared.tree.ComponentType.{ComponentType}
-use Rattle.tp_tree.specs.declared.tree.Function.{Function}
+use Rattle.std.specs.{Prelude.◌≡◌, Prelude.ℕ, Prelude.Option, Prelude.List, Prelude.All, Prelude.map, List.AllZip}
+use Rattle.tp_tree.specs.declared.tree.{Module.Module, Definition.Definition, Defined.Defined, PortType.PortType}
+use Rattle.tp_tree.specs.declared.tree.{ComponentType.ComponentType, Function.Function, TestCase.TestCase}
 use Rattle.tp_checks.specs.declared.sorted.Sorted.{Sorted}
-use Rattle.tp_config.specs.declared.port_type.CompType.{CompType}
-use Rattle.tp_config.specs.declared.port_type.PortType.{PortType as PortLists}
+use Rattle.tp_config.specs.declared.port_type.{CompType.CompType, PortType.PortType as PortLists}
 use Rattle.tp_checks.specs.Rules.{AreMessagesKnown, AreSoundTypes, IsSound, IsSoundComponent}
-use Rattle.tp_checks.specs.Resolved.{IsComponentType, IsMade}
-use Rattle.std.specs.List.{AllZip}
-use Rattle.tp_tree.specs.declared.tree.TestCase.{TestCase}
+use Rattle.tp_checks.specs.{Resolved.IsComponentType, Resolved.IsMade, Definitions.port_type_of}
 use Rattle.tp_checks.specs.Definitions.{of_kind, component_type_of, component_type_names, function_of, name_of}
-use Rattle.tp_checks.specs.Definitions.{port_type_of}
 use Rattle.tp_checks.specs.Definitions.{port_type_names, type_names, type_of}
 
 -- these are the definitions of one kind, and their names
@@ -54,6 +46,10 @@ component_types_in s = map (λ c. c.now) s.component_types.items
 
 abbrev pub functions_in : Sorted → List Function
 functions_in s = map (λ f. f.now) s.functions.items
+
+-- a definition, given the sorted component types and their names
+abbrev pub in_sorted : {A : Type 1} → (List (List ℕ) → List ComponentType → A) → Sorted → A
+in_sorted definition s = definition s.component_names (component_types_in s)
 
 -- these are the sorted component types, with their ports
 abbrev pub AreComponentTypesIn : Sorted → List CompType → Type 0

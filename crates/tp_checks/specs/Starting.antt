@@ -1,20 +1,12 @@
 -- The starts of the components (ES 201 873-1, 21.3.2).
-use Rattle.std.specs.Prelude.{◌≡◌, ◌≢◌, ◌<◌, ◌+◌, ℕ, Option, Some, List, ◌∷◌, IsSome}
-use Rattle.std.specs.Prelude.{length, map, slice_get}
-use Rattle.std.specs.Option.{option_map}
-use Rattle.std.specs.List.{AllZip}
-use Rattle.tp_tree.specs.declared.tree.ComponentName.{ComponentName}
+use Rattle.std.specs.Prelude.{◌≡◌, ◌≢◌, ◌<◌, ◌+◌, ℕ, Option, Some, List, ◌∷◌, IsSome, length, map, slice_get}
+use Rattle.std.specs.{Option.option_map, List.AllZip}
+use Rattle.tp_tree.specs.declared.tree.{ComponentName.ComponentName, ComponentStart.ComponentStart, Function.Function}
+use Rattle.tp_tree.specs.declared.tree.{Parameter.Parameter, Creation.Creation, TestCase.TestCase}
 use Rattle.tp_tree.specs.declared.tree.ComponentName.TheVariants as component_name
-use Rattle.tp_tree.specs.declared.tree.ComponentStart.{ComponentStart}
-use Rattle.tp_tree.specs.declared.tree.Function.{Function}
-use Rattle.tp_tree.specs.declared.tree.Parameter.{Parameter}
-use Rattle.tp_tree.specs.declared.tree.Creation.{Creation}
-use Rattle.tp_tree.specs.declared.tree.TestCase.{TestCase}
 use Rattle.tp_config.specs.declared.port_type.CompId.{CompId}
-use Rattle.tp_checks.specs.declared.starts.StartedComponent.{StartedComponent}
-use Rattle.tp_checks.specs.declared.starts.Starts.{Starts}
-use Rattle.tp_checks.specs.Tables.{IsNumbered, place_of_name}
-use Rattle.tp_checks.specs.Rules.{sut}
+use Rattle.tp_checks.specs.declared.starts.{StartedComponent.StartedComponent, Starts.Starts}
+use Rattle.tp_checks.specs.{Tables.IsNumbered, Tables.place_of_name, Rules.sut}
 use Rattle.tp_checks.specs.Components.{creations, variables}
 
 -- the number of the component that an argument names, given the names of the component variables; `self` is `mtc`

@@ -1,7 +1,6 @@
 -- Names, as lists of bytes.
 use Rattle.std.specs.Prelude.{ℕ, ◌≢◌, ◌<◌, ◌^◌, List, Option, length, position}
-use Rattle.std.specs.List.{AllPairs}
-use Rattle.std.specs.Str.{bytes_eq}
+use Rattle.std.specs.{List.AllPairs, Str.bytes_eq}
 
 -- no name occurs twice
 abbrev pub AreDistinct : List (List ℕ) → Type 0

@@ -4,14 +4,12 @@
 ghost use Rattle.std.specs.Prelude.{◌≡◌, All, ◌<◌, ◌≤◌, ◌+◌, ◌++◌, ◌∷◌, [], List, ℕ, Contains, IfErr, IfNone, IfOk};
 ghost use Rattle.std.specs.Prelude.{IfSome, None, OnErr, OnOk, Some, length, map, option_map};
 ghost use Rattle.std.specs.Option.{option_copied};
-ghost use Rattle.tp_checks.specs.Tables.{AreDistinct, IsNumbered, place_of_name};
-ghost use Rattle.tp_checks.specs.Refused.{IsRefusedBy, TellsAt};
+ghost use Rattle.tp_checks.specs.{Tables.AreDistinct, Tables.IsNumbered, Tables.place_of_name, Additions.StopsCreating};
+ghost use Rattle.tp_checks.specs.{Refused.IsRefusedBy, Refused.TellsAt, BrokenSetup.CreationBreaks};
 ghost use Rattle.tp_checks.specs.Components.{Adds, AddsAll, HaveDistinctPorts, CanAdd, CanAddAll, HasPorts};
-ghost use Rattle.tp_checks.specs.Components.{HasSoundVariables, HasStopped, IsSoundVariable, component_number, created};
+ghost use Rattle.tp_checks.specs.Components.{HasSoundVariables, HasStopped, IsSoundVariable, component_number, created, declared_as};
 ghost use Rattle.tp_checks.specs.Components.{creation_of, creations, interface, variable_name, variables};
 ghost use Rattle.tp_checks.specs.Additions.{AdditionBreaks, AwaitsInterface, HasRoomForVariables, InterfaceBreaks};
-ghost use Rattle.tp_checks.specs.Additions.{StopsCreating};
-ghost use Rattle.tp_checks.specs.BrokenSetup.{CreationBreaks};
 ghost use Rattle.tp_checks.specs.Sorted.{AreComponentsNamed, component_types_in};
 
 use crate::config_faults::create_fault_at;
@@ -40,27 +38,14 @@ pub(crate) fn add_component(
     types: &NameSet,
     component: &DeclaredComponent,
 ) -> Result<CompId, ModuleFault>
-    ensures added { OnOk result (Adds types.now
-        (record {
-          name = component.now.name.now;
-          type_name = component.now.type_name.now;
-          role = component.now.role;
-        }) config.old config.new) }
+    ensures added { OnOk result (
+        Adds types.now (declared_as component.now) config.old config.new) }
     ensures number { IfOk result (λ comp. comp.0 ≡ length config.old.components) }
     ensures err { OnErr result (config.new ≡ config.old) }
-    ensures refused { IfErr result (IsRefusedBy (CanAdd types.now
-        (record {
-          name = component.now.name.now;
-          type_name = component.now.type_name.now;
-          role = component.now.role;
-        }) config.old)) }
-    ensures told { length types.now ≡ length config.old.types
-        → IfErr result (TellsAt component.now.line (AdditionBreaks types.now
-        (record {
-          name = component.now.name.now;
-          type_name = component.now.type_name.now;
-          role = component.now.role;
-        }) config.old)) }
+    ensures refused { IfErr result (IsRefusedBy (
+        CanAdd types.now (declared_as component.now) config.old)) }
+    ensures told { length types.now ≡ length config.old.types → IfErr result (TellsAt
+        component.now.line (AdditionBreaks types.now (declared_as component.now) config.old)) }
 {
     let Some(kind) = types.find(component.type_name) else {
         return Err(refused(ModuleRule::Unknown, component.line));
@@ -93,14 +78,11 @@ fn check_variable<'m>(
     ensures numbered { IsNumbered variables.new }
     ensures no_port { OnOk result (
         Contains rules.now.port_names.now (variable_name creation.now) → ⊥) }
-    ensures known { OnOk result (
-        Contains rules.now.type_names.now creation.now.type_name) }
-    ensures same { OnOk result (
-        creation.now.type_name ≡ creation.now.created) }
+    ensures known { OnOk result (Contains rules.now.type_names.now creation.now.type_name) }
+    ensures same { OnOk result (creation.now.type_name ≡ creation.now.created) }
     ensures few { OnOk result (length variables.new ≤ rules.now.most) }
-    ensures refused { IfErr result (IsRefusedBy (IsSoundVariable
-        rules.now.type_names.now rules.now.port_names.now variables.old rules.now.most
-        creation.now)) }
+    ensures refused { IfErr result (IsRefusedBy (IsSoundVariable rules.now.type_names.now
+        rules.now.port_names.now variables.old rules.now.most creation.now)) }
     ensures told { (others : List (List ℕ)) → length variables.old < 4294967295
         → IfErr result (TellsAt line (CreationBreaks rules.now.type_names.now
         rules.now.port_names.now others variables.old rules.now.most creation.now)) }
@@ -175,20 +157,17 @@ fn create<'m>(
         Contains rules.now.port_names.now (variable_name at.entry.creation.now) → ⊥) }
     ensures known { OnOk result (
         Contains rules.now.type_names.now at.entry.creation.now.type_name) }
-    ensures same { OnOk result (at.entry.creation.now.type_name
-        ≡ at.entry.creation.now.created) }
+    ensures same { OnOk result (at.entry.creation.now.type_name ≡ at.entry.creation.now.created) }
     ensures few { OnOk result (length variables.new ≤ rules.now.most) }
     ensures component { OnOk result (
         Adds rules.now.type_names.now (created at.entry.creation.now) config.old config.new) }
     ensures err { OnErr result (config.new ≡ config.old) }
-    ensures refused { IfErr result (IsRefusedBy (
-        IsSoundVariable rules.now.type_names.now rules.now.port_names.now variables.old
-        rules.now.most at.entry.creation.now
+    ensures refused { IfErr result (IsRefusedBy (IsSoundVariable rules.now.type_names.now
+        rules.now.port_names.now variables.old rules.now.most at.entry.creation.now
         × CanAdd rules.now.type_names.now (created at.entry.creation.now) config.old)) }
     ensures told { (others : List (List ℕ))
         → HasRoomForVariables rules.now.type_names.now others variables.old rules.now.most
-        config.old
-        → IfErr result (TellsAt at.entry.line (CreationBreaks rules.now.type_names.now
+        config.old → IfErr result (TellsAt at.entry.line (CreationBreaks rules.now.type_names.now
         rules.now.port_names.now others variables.old rules.now.most at.entry.creation.now)) }
 {
     check_variable(variables, rules, at.creation, at.line)?;
@@ -217,15 +196,13 @@ pub(crate) fn create_components<'m>(
         (map created (creations setups.now)) config.old config.new) }
     ensures stopped { IfErr result (λ stopped. HasStopped rules.now.type_names.now setups.now
         stopped.before.now config.old config.new) }
-    ensures refused { IfErr result (λ stopped. IsRefusedBy (
-        HasSoundVariables rules.now.type_names.now rules.now.port_names.now rules.now.most
-        (creations setups.now)
+    ensures refused { IfErr result (λ stopped. IsRefusedBy (HasSoundVariables
+        rules.now.type_names.now rules.now.port_names.now rules.now.most (creations setups.now)
         × CanAddAll rules.now.type_names.now (variables setups.now) config.old) stopped.fault) }
     ensures told { (others : List (List ℕ))
         → HasRoomForVariables rules.now.type_names.now others [] rules.now.most config.old
-        → IfErr result (λ stopped. StopsCreating rules.now.type_names.now
-        rules.now.port_names.now others rules.now.most setups.now stopped.before.now
-        stopped.fault) }
+        → IfErr result (λ stopped. StopsCreating rules.now.type_names.now rules.now.port_names.now
+        others rules.now.most setups.now stopped.before.now stopped.fault) }
 {
     let mut variables = NameSet::new(alloc);
     for (i, setup) in setups.iter().enumerate() {
@@ -253,9 +230,8 @@ pub(crate) fn ports_of_type<'m>(
     requires { AreComponentsNamed sorted.now }
     ensures ports { IfOk result (HasPorts (component_types_in sorted.now) name.now) }
     ensures distinct { AreDistinct sorted.now.component_names }
-    ensures refused { HaveDistinctPorts (component_types_in sorted.now)
-        → IfErr result (IsRefusedBy ((ports : List (List ℕ))
-        × HasPorts (component_types_in sorted.now) name.now ports)) }
+    ensures refused { HaveDistinctPorts (component_types_in sorted.now) → IfErr result (IsRefusedBy
+        ((ports : List (List ℕ)) × HasPorts (component_types_in sorted.now) name.now ports)) }
 {
     let Some(place) = sorted.component_names.find(name) else {
         return Err(refused(ModuleRule::Unknown, line));

@@ -13,8 +13,7 @@ pub(crate) fn create_fault_at(fault: CreateFault, line: u32) -> ModuleFault
     ensures told { fault_refusal result ≡ create_refusal fault }
     ensures duplicate { fault ≡ CreateFault.Duplicate
         → result ≡ ModuleFault.Refused ModuleRule.Duplicate line }
-    ensures limit { fault ≡ CreateFault.Limit
-        → result ≡ ModuleFault.Refused ModuleRule.Limit line }
+    ensures limit { fault ≡ CreateFault.Limit → result ≡ ModuleFault.Refused ModuleRule.Limit line }
     ensures memory { fault ≡ CreateFault.Memory → result ≡ ModuleFault.Memory (record {}) }
     ensures line { IsAtLine line result }
 {

@@ -18,10 +18,7 @@ pub struct Context<'a, 'v, 'm> {
 
 impl<'a, 'v, 'm> Context<'a, 'v, 'm> {
     ghost use Rattle.std.specs.Prelude.{◌≡◌, ◌≢◌, ◌⊎◌, ℕ, Contains, IfErr, OnErr, OnOk, Some};
-    ghost use Rattle.tp_checks.specs.Named.{texts};
-    ghost use Rattle.tp_checks.specs.Refused.{TellsAt};
-    ghost use Rattle.tp_checks.specs.Scoping.{IsReference};
-    ghost use Rattle.tp_checks.specs.BrokenOperations.{FromBreaks};
+    ghost use Rattle.tp_checks.specs.{Refused.TellsAt, Scoping.IsReference, Scoping.here, BrokenOperations.FromBreaks};
 
     pub fn unknown(&self) -> ModuleFault
         ensures { result ≡ ModuleFault.Refused ModuleRule.Unknown self.now.line }
@@ -64,8 +61,7 @@ impl<'a, 'v, 'm> Context<'a, 'v, 'm> {
         ensures ok { OnOk result (self.now.scope.now.behaviour ≢ BehaviourKind.SystemUnderTest) }
         ensures err { IfErr result (λ fault.
             fault ≡ ModuleFault.Refused ModuleRule.NotInSut self.now.line) }
-        ensures sut { OnErr result
-            (self.now.scope.now.behaviour ≡ BehaviourKind.SystemUnderTest) }
+        ensures sut { OnErr result (self.now.scope.now.behaviour ≡ BehaviourKind.SystemUnderTest) }
     {
         if self.scope.behaviour == BehaviourKind::SystemUnderTest {
             return Err(refused(ModuleRule::NotInSut, self.line));
@@ -107,12 +103,8 @@ impl<'a, 'v, 'm> Context<'a, 'v, 'm> {
     /// The refusal of a name after `from` that isn't a reference: 13 `WrongType` for a variable,
     /// otherwise 11 `Unknown`.
     pub fn no_reference(&self, component: &ComponentName) -> ModuleFault
-        ensures { ((k : ℕ) → IsReference
-            self.now.scope.now self.now.variables.now (texts self.now.turns.now) component.now k
-            → ⊥)
-            → TellsAt self.now.line (FromBreaks
-            self.now.scope.now self.now.variables.now (texts self.now.turns.now)
-            (Some component.now)) result }
+        ensures { ((k : ℕ) → here IsReference self.now component.now k → ⊥)
+            → TellsAt self.now.line (here FromBreaks self.now (Some component.now)) result }
     {
         if let ComponentName::Named(name) = component {
             return self.no_turn(name.as_str());

@@ -2,19 +2,14 @@
 #![tactic(auto, using(crate::proofs::DefinitionFaultsTold::definitions))]
 
 ghost use Rattle.std.specs.Prelude.{◌≡◌, ◌≤◌, ◌↔◌, ℕ, All, Contains, IfErr, IfOk, IfSome, IsTrue, List, OnOk, is_some};
-ghost use Rattle.std.specs.Prelude.{length};
-ghost use Rattle.std.specs.List.{AllZip, list_all};
+ghost use Rattle.std.specs.{Prelude.length, List.AllZip, List.list_all};
 ghost use Rattle.tp_tree.specs.declared.tree.Defined.{Defined};
-ghost use Rattle.tp_checks.specs.Definitions.{declared_ports};
-ghost use Rattle.tp_checks.specs.Refused.{IsRefusedBy, Tells, TellsAt};
+ghost use Rattle.tp_checks.specs.{Definitions.declared_ports, Refused.IsRefusedBy, Refused.Tells, Refused.TellsAt};
 ghost use Rattle.tp_checks.specs.Rules.{AreComponentTypesKnown, CanPlaySystem, HasUniqueNames, IsComponentFault};
 ghost use Rattle.tp_checks.specs.Rules.{IsSoundFunction, NamesType, has_known_messages, has_known_parameters};
-ghost use Rattle.tp_checks.specs.Rules.{has_known_ports, sut};
-ghost use Rattle.tp_checks.specs.Tables.{place_of_name};
+ghost use Rattle.tp_checks.specs.{Rules.has_known_ports, Rules.sut, Tables.place_of_name, Resolved.IsNamedType};
 ghost use Rattle.tp_checks.specs.Sorted.{AreComponentTypesIn, AreSorted, AreSound, ArePortsNamed, HasSoundDefinitions};
-ghost use Rattle.tp_checks.specs.Sorted.{IsSortedSound, IsSoundIn, types_in};
-ghost use Rattle.tp_checks.specs.Resolved.{IsNamedType};
-ghost use Rattle.tp_checks.specs.Defining.{IsDefined};
+ghost use Rattle.tp_checks.specs.{Sorted.IsSortedSound, Sorted.IsSoundIn, Sorted.types_in, Defining.IsDefined};
 ghost use Rattle.tp_checks.specs.BrokenDefinitions.{DefinitionBreaks, DefinitionsBreak, DefinitionsOfBreak};
 
 use crate::fault::{ModuleFault, ModuleRule, refused};
@@ -136,13 +131,10 @@ fn check_function(
 ) -> Result<(), ModuleFault>
     ensures runs_on { OnOk result (Contains components.now function.now.runs_on) }
     ensures parameters { OnOk result (IsTrue (has_known_parameters components.now function.now)) }
-    ensures sut { OnOk result (function.now.name ≡ sut
-        → CanPlaySystem system.now function.now) }
-    ensures refused { IfErr result (λ _. ¬ IsSoundFunction components.now
-        system.now function.now) }
-    ensures told { (types ports : List (List ℕ)) → IfErr result (TellsAt line (DefinitionBreaks
-        types ports components.now system.now
-        (Defined.Function function.now))) }
+    ensures sut { OnOk result (function.now.name ≡ sut → CanPlaySystem system.now function.now) }
+    ensures refused { IfErr result (λ _. ¬ IsSoundFunction components.now system.now function.now) }
+    ensures told { (types ports : List (List ℕ)) → IfErr result (TellsAt line
+        (DefinitionBreaks types ports components.now system.now (Defined.Function function.now))) }
 {
     known(components.has(function.runs_on.as_str()), line)?;
     known(
@@ -163,8 +155,7 @@ pub fn is_sut(name: &str) -> bool
 
 fn check_case(components: &NameSet, case: &TestCase, line: u32) -> Result<(), ModuleFault>
     ensures runs_on { OnOk result (Contains components.now case.now.runs_on) }
-    ensures system { OnOk result (
-        IfSome case.now.system (λ s. Contains components.now s)) }
+    ensures system { OnOk result (IfSome case.now.system (λ s. Contains components.now s)) }
     ensures refused { IfErr result (λ _.
         ¬ AreComponentTypesKnown components.now (Defined.TestCase case.now)) }
     ensures told { IfErr result (λ fault. fault ≡ ModuleFault.Refused ModuleRule.Unknown line) }
@@ -181,13 +172,10 @@ fn check_definition(
     system: &Option<Name>,
     definition: &Definition,
 ) -> Result<(), ModuleFault>
-    ensures sound { OnOk result (
-        IsSoundIn sorted.now system.now definition.now) }
-    ensures refused { IfErr result (λ _.
-        ¬ IsSoundIn sorted.now system.now definition.now) }
-    ensures told { IfErr result (TellsAt definition.now.line (DefinitionBreaks
-        sorted.now.type_names sorted.now.port_names sorted.now.component_names
-        system.now definition.now.defined)) }
+    ensures sound { OnOk result (IsSoundIn sorted.now system.now definition.now) }
+    ensures refused { IfErr result (λ _. ¬ IsSoundIn sorted.now system.now definition.now) }
+    ensures told { IfErr result (TellsAt definition.now.line (DefinitionBreaks sorted.now.type_names
+        sorted.now.port_names sorted.now.component_names system.now definition.now.defined)) }
 {
     let line = definition.line;
     let types = &sorted.type_names;
@@ -213,13 +201,10 @@ fn check_definitions(
     system: &Option<Name>,
     definitions: &[Definition],
 ) -> Result<(), ModuleFault>
-    ensures sound { OnOk result (
-        AreSound sorted.now system.now definitions.now) }
-    ensures refused { IfErr result (λ _.
-        ¬ AreSound sorted.now system.now definitions.now) }
-    ensures told { IfErr result (Tells (DefinitionsBreak
-        sorted.now.type_names sorted.now.port_names sorted.now.component_names
-        system.now definitions.now)) }
+    ensures sound { OnOk result (AreSound sorted.now system.now definitions.now) }
+    ensures refused { IfErr result (λ _. ¬ AreSound sorted.now system.now definitions.now) }
+    ensures told { IfErr result (Tells (DefinitionsBreak sorted.now.type_names
+        sorted.now.port_names sorted.now.component_names system.now definitions.now)) }
 {
     for definition in definitions {
         check_definition(sorted, system, definition)?;

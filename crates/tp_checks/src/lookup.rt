@@ -1,8 +1,7 @@
 //! Look-ups of names.
 ghost use Rattle.std.specs.Prelude.{◌≡◌, ◌++◌, ◌↔◌, ◌≤◌, ◌<◌, ◌^◌, ℕ, Contains, IsTrue, IfNone, IfSome, length};
-ghost use Rattle.tp_checks.specs.Named.{IsAbsent, IsPlace, texts};
-ghost use Rattle.tp_checks.specs.Scoping.{AreTyped, IsPortNamed, IsReference, IsType, IsVariable, declared_port_names};
-ghost use Rattle.tp_checks.specs.Scoping.{receivable_types, sendable_types};
+ghost use Rattle.tp_checks.specs.Named.{IsAbsent, IsPlace};
+ghost use Rattle.tp_checks.specs.Scoping.{AreTyped, IsPortNamed, IsReference, IsType, IsVariable, here, ports_in, receivable_types, sendable_types, visible_in};
 
 use crate::context::Context;
 use crate::name::find;
@@ -15,9 +14,8 @@ use tp_tree::tree::ComponentName;
 use tp_value::types::{Ty, Types};
 
 pub fn place_of_port(ports: &CompType, name: &str) -> Option<usize>
-    ensures there { IfSome result (λ place.
-        IsPlace (declared_port_names ports.now) name.now place) }
-    ensures absent { IfNone result (IsAbsent (declared_port_names ports.now) name.now) }
+    ensures there { IfSome result (λ place. IsPlace (ports_in ports.now).names name.now place) }
+    ensures absent { IfNone result (IsAbsent (ports_in ports.now).names name.now) }
 {
     match ports.ports.get_index_of(name) {
         Some(place) => Some(place),
@@ -25,11 +23,13 @@ pub fn place_of_port(ports: &CompType, name: &str) -> Option<usize>
     }
 }
 
-pub fn find_port<'p>(ports: &'p CompType, name: &str) -> Option<(u32, &'p PortType)>
-    ensures there { IfSome result (λ found. IsPortNamed ports.now name.now found.0 found.1.now) }
-    ensures absent { length ports.now.ports.entries ≤ 64
-        → IfNone result (IsAbsent (declared_port_names ports.now) name.now) }
+pub fn find_port<'p>(scope: &Scope<'p>, name: &str) -> Option<(u32, &'p PortType)>
+    ensures there { IfSome result
+        (λ found. IsPortNamed (visible_in scope.now) name.now found.0 found.1.now) }
+    ensures absent { length (visible_in scope.now).ports.names ≤ 64
+        → IfNone result (IsAbsent (visible_in scope.now).ports.names name.now) }
 {
+    let ports = scope.component_type;
     let place = place_of_port(ports, name)?;
     // It is there: the place was found just now.
     let Some((_, port)) = ports.ports.get_index(place) else {
@@ -109,12 +109,8 @@ fn find_component(scope: &Scope, name: &str) -> Option<usize>
 
 #[tactic(auto, using(crate::proofs::DefinitionLines::names))]
 pub fn find_reference(context: &Context, component: &ComponentName) -> Option<usize>
-    ensures there { IfSome result (IsReference
-        context.now.scope.now context.now.variables.now (texts context.now.turns.now)
-        component.now) }
-    ensures absent { IfNone result ((k : ℕ) → IsReference
-        context.now.scope.now context.now.variables.now (texts context.now.turns.now)
-        component.now k → ⊥) }
+    ensures there { IfSome result (here IsReference context.now component.now) }
+    ensures absent { IfNone result ((k : ℕ) → here IsReference context.now component.now k → ⊥) }
 {
     match component {
         ComponentName::Mtc => Some(0),

@@ -2,13 +2,10 @@
 #![tactic(auto, using(crate::proofs::DefinitionLines::values))]
 
 ghost use Rattle.std.specs.Prelude.{◌≡◌, IfErr, IfOk, length};
-ghost use Rattle.tp_checks.specs.Named.{texts};
-ghost use Rattle.tp_checks.specs.Refused.{TellsAt};
-ghost use Rattle.tp_checks.specs.Tables.{AreDistinct};
+ghost use Rattle.tp_checks.specs.{Refused.TellsAt, Tables.AreDistinct, Placing.field_names};
 ghost use Rattle.tp_checks.specs.Messages.{AreElements, AreFields, AreNamed, IsValue};
 ghost use Rattle.tp_checks.specs.BrokenValues.{ElementsBreak, EntriesBreak, FieldsBreak, ValueBreaks};
-ghost use Rattle.tp_checks.specs.Placing.{field_names};
-ghost use Rattle.tp_checks.specs.Scoping.{IsSoundScope};
+ghost use Rattle.tp_checks.specs.Scoping.{IsSoundHere, breaks_here, stands_here};
 
 use crate::context::Context;
 use crate::fault::ModuleFault;
@@ -32,11 +29,9 @@ pub fn resolve_value(
     ty: Ty,
     value: &Value,
 ) -> Result<SendValue, ModuleFault>
-    ensures stands { IfOk result
-        (IsValue context.now.scope.now.types.now (texts context.now.turns.now) ty value.now) }
-    ensures told { IsSoundScope context.now.scope.now
-        → IfErr result (TellsAt context.now.line (ValueBreaks context.now.scope.now.types.now
-        context.now.variables.now (texts context.now.turns.now) ty value.now)) }
+    ensures stands { IfOk result (stands_here IsValue context.now ty value.now) }
+    ensures told { IsSoundHere context.now → IfErr result
+        (TellsAt context.now.line (breaks_here ValueBreaks context.now ty value.now)) }
 {
     match value {
         Value::Int(number) => {
@@ -75,11 +70,9 @@ fn resolve_in_braces(
     ty: Ty,
     values: &[Value],
 ) -> Result<SendValue, ModuleFault>
-    ensures stands { IfOk result (IsValue context.now.scope.now.types.now
-        (texts context.now.turns.now) ty (Value.List values.now)) }
-    ensures told { IsSoundScope context.now.scope.now
-        → IfErr result (TellsAt context.now.line (ValueBreaks context.now.scope.now.types.now
-        context.now.variables.now (texts context.now.turns.now) ty (Value.List values.now))) }
+    ensures stands { IfOk result (stands_here IsValue context.now ty (Value.List values.now)) }
+    ensures told { IsSoundHere context.now → IfErr result (TellsAt context.now.line
+        (breaks_here ValueBreaks context.now ty (Value.List values.now))) }
 {
     match context.scope.types.definition(ty) {
         Some(TypeDef::ListOf(element)) => {
@@ -101,11 +94,9 @@ fn resolve_elements(
     ty: Ty,
     values: &[Value],
 ) -> Result<Items<SendValue>, ModuleFault>
-    ensures stand { IfOk result
-        (AreElements context.now.scope.now.types.now (texts context.now.turns.now) ty values.now) }
-    ensures told { IsSoundScope context.now.scope.now
-        → IfErr result (TellsAt context.now.line (ElementsBreak context.now.scope.now.types.now
-        context.now.variables.now (texts context.now.turns.now) ty values.now)) }
+    ensures stand { IfOk result (stands_here AreElements context.now ty values.now) }
+    ensures told { IsSoundHere context.now → IfErr result
+        (TellsAt context.now.line (breaks_here ElementsBreak context.now ty values.now)) }
 {
     let mut made = Items::new(alloc);
     for value in values {
@@ -122,12 +113,9 @@ fn resolve_fields(
     fields: &[Field],
     values: &[Value],
 ) -> Result<Items<SendValue>, ModuleFault>
-    ensures stand { IfOk result
-        (AreFields context.now.scope.now.types.now (texts context.now.turns.now)
-        fields.now values.now) }
-    ensures told { IsSoundScope context.now.scope.now
-        → IfErr result (TellsAt context.now.line (FieldsBreak context.now.scope.now.types.now
-        context.now.variables.now (texts context.now.turns.now) fields.now values.now)) }
+    ensures stand { IfOk result (stands_here AreFields context.now fields.now values.now) }
+    ensures told { IsSoundHere context.now → IfErr result
+        (TellsAt context.now.line (breaks_here FieldsBreak context.now fields.now values.now)) }
 {
     if fields.len() != values.len() {
         return Err(context.wrong_type());
@@ -147,12 +135,11 @@ fn resolve_named(
     fields: &[Field],
     entries: &[ValueField],
 ) -> Result<Items<SendValue>, ModuleFault>
-    ensures named { IfOk result (λ made. AreNamed
-        context.now.scope.now.types.now (texts context.now.turns.now) entries.now fields.now made) }
+    ensures named { IfOk result
+        (λ made. stands_here AreNamed context.now entries.now fields.now made) }
     ensures count { IfOk result (λ _. length entries.now ≡ length fields.now) }
-    ensures told { IsSoundScope context.now.scope.now → AreDistinct (field_names fields.now)
-        → IfErr result (TellsAt context.now.line (EntriesBreak context.now.scope.now.types.now
-        context.now.variables.now (texts context.now.turns.now) fields.now entries.now)) }
+    ensures told { IsSoundHere context.now → AreDistinct (field_names fields.now) → IfErr result
+        (TellsAt context.now.line (breaks_here EntriesBreak context.now fields.now entries.now)) }
 {
     let places = field_places(alloc, fields, entries, context.line)?;
     let mut made = Vec::new(alloc);

@@ -1,6 +1,5 @@
 //! Names and their places.
-ghost use Rattle.std.specs.Prelude.{◌≡◌, IfSome, IfNone};
-ghost use Rattle.std.specs.Str.{bytes_eq};
+ghost use Rattle.std.specs.{Prelude.◌≡◌, Prelude.IfSome, Prelude.IfNone, Str.bytes_eq};
 ghost use Rattle.tp_checks.specs.Named.{IsPlace, IsAbsent, texts};
 
 /// A name of the text (ES 201 873-1, 5.2.2).

@@ -2,10 +2,8 @@
 #![tactic(auto, using(crate::proofs::DefinitionLines::operations))]
 
 ghost use Rattle.std.specs.Prelude.{◌≡◌, ◌↔◌, Contains, IfErr, IfOk, IsTrue, OnErr, Some};
-ghost use Rattle.tp_checks.specs.Named.{IsAbsent, texts};
-ghost use Rattle.tp_checks.specs.Refused.{TellsAt};
-ghost use Rattle.tp_checks.specs.Scoping.{AreTyped, IsSoundScope, IsVariable};
-ghost use Rattle.tp_checks.specs.Messages.{IsMessage};
+ghost use Rattle.tp_checks.specs.{Named.IsAbsent, Named.texts, Refused.TellsAt, Messages.IsMessage};
+ghost use Rattle.tp_checks.specs.Scoping.{AreTyped, IsSoundHere, IsVariable, breaks_here, here, stands_here, visible_in};
 ghost use Rattle.tp_checks.specs.Bodies.{IsReceive, IsReceiver, IsSend, IsFrom, IsSenderTarget, IsSent, IsValueTarget};
 ghost use Rattle.tp_checks.specs.Bodies.{IsVerdict, IsWanted};
 ghost use Rattle.tp_checks.specs.BrokenOperations.{FromBreaks, MessageBreaks, NamesNoComponent, NamesNoMessage};
@@ -38,13 +36,10 @@ fn resolve_written(
     sendable: &TypeList,
     message: &Message,
 ) -> Result<SendMsg, ModuleFault>
-    ensures message { IfOk result
-        (IsMessage context.now.scope.now.types.now (texts context.now.turns.now) message.now) }
+    ensures message { IfOk result (stands_here IsMessage context.now message.now) }
     ensures listed { IfOk result (λ m. Contains sendable.now m.ty) }
-    ensures told { IsSoundScope context.now.scope.now
-        → IfErr result (TellsAt context.now.line (MessageBreaks
-        context.now.scope.now context.now.variables.now (texts context.now.turns.now)
-        sendable.now message.now)) }
+    ensures told { IsSoundHere context.now → IfErr result (TellsAt context.now.line
+        (breaks_here MessageBreaks context.now sendable.now message.now)) }
 {
     let Some(ty) = find_type(context.scope.types, &message.type_name) else {
         return Err(context.unknown());
@@ -82,9 +77,7 @@ fn variable_named(context: &Context, name: &str) -> Result<(usize, VariableType)
     ensures held { IfOk result (λ found.
         IsVariable context.now.variables.now name.now found.0 found.1) }
     ensures told { AreTyped context.now.variables.now
-        → IfErr result (TellsAt context.now.line (NamesNoVariable
-        context.now.scope.now context.now.variables.now (texts context.now.turns.now)
-        name.now)) }
+        → IfErr result (TellsAt context.now.line (here NamesNoVariable context.now name.now)) }
 {
     let None = find(context.turns, name) else {
         return Err(context.wrong_type());
@@ -100,9 +93,7 @@ fn message_variable(context: &Context, name: &str) -> Result<(usize, Ty), Module
     ensures held { IfOk result (λ found.
         IsVariable context.now.variables.now name.now found.0 (VariableType.Message found.1)) }
     ensures told { AreTyped context.now.variables.now
-        → IfErr result (TellsAt context.now.line (NamesNoMessage
-        context.now.scope.now context.now.variables.now (texts context.now.turns.now)
-        name.now)) }
+        → IfErr result (TellsAt context.now.line (here NamesNoMessage context.now name.now)) }
 {
     let (place, held) = variable_named(context, name)?;
     match held {
@@ -116,9 +107,7 @@ fn component_variable(context: &Context, name: &str) -> Result<usize, ModuleFaul
     ensures held { IfOk result (λ place.
         IsVariable context.now.variables.now name.now place VariableType.Component) }
     ensures told { AreTyped context.now.variables.now
-        → IfErr result (TellsAt context.now.line (NamesNoComponent
-        context.now.scope.now context.now.variables.now (texts context.now.turns.now)
-        name.now)) }
+        → IfErr result (TellsAt context.now.line (here NamesNoComponent context.now name.now)) }
 {
     let (place, held) = variable_named(context, name)?;
     match held {
@@ -133,13 +122,9 @@ fn resolve_sent(
     sendable: &TypeList,
     sent: &tree::SentExpression,
 ) -> Result<Sent, ModuleFault>
-    ensures stands { IfOk result (IsSent
-        context.now.scope.now context.now.variables.now (texts context.now.turns.now)
-        sendable.now sent.now) }
-    ensures told { IsSoundScope context.now.scope.now → AreTyped context.now.variables.now
-        → IfErr result (TellsAt context.now.line (SentBreaks
-        context.now.scope.now context.now.variables.now (texts context.now.turns.now)
-        sendable.now sent.now)) }
+    ensures stands { IfOk result (here IsSent context.now sendable.now sent.now) }
+    ensures told { IsSoundHere context.now → AreTyped context.now.variables.now → IfErr result
+        (TellsAt context.now.line (here SentBreaks context.now sendable.now sent.now)) }
 {
     match sent {
         tree::SentExpression::Message(message) => {
@@ -173,13 +158,10 @@ fn is_variable(context: &Context, name: &str) -> bool
 }
 
 fn resolve_component(context: &Context, component: &ComponentName) -> Result<Receiver, ModuleFault>
-    ensures stands { IfOk result (IsReceiver
-        context.now.scope.now context.now.variables.now (texts context.now.turns.now)
-        (Some (Receivers.Component component.now))) }
-    ensures told { AreTyped context.now.variables.now
-        → IfErr result (TellsAt context.now.line (ReceiverBreaks
-        context.now.scope.now context.now.variables.now (texts context.now.turns.now)
-        (Some (Receivers.Component component.now)))) }
+    ensures stands { IfOk result
+        (here IsReceiver context.now (Some (Receivers.Component component.now))) }
+    ensures told { AreTyped context.now.variables.now → IfErr result (TellsAt context.now.line
+        (here ReceiverBreaks context.now (Some (Receivers.Component component.now)))) }
 {
     if let ComponentName::Named(name) = component {
         let name = name.as_str();
@@ -195,12 +177,9 @@ fn resolve_component(context: &Context, component: &ComponentName) -> Result<Rec
 }
 
 fn resolve_receiver(context: &Context, to: &Option<Receivers>) -> Result<Receiver, ModuleFault>
-    ensures stands { IfOk result (IsReceiver
-        context.now.scope.now context.now.variables.now (texts context.now.turns.now) to.now) }
+    ensures stands { IfOk result (here IsReceiver context.now to.now) }
     ensures told { AreTyped context.now.variables.now
-        → IfErr result (TellsAt context.now.line (ReceiverBreaks
-        context.now.scope.now context.now.variables.now (texts context.now.turns.now)
-        to.now)) }
+        → IfErr result (TellsAt context.now.line (here ReceiverBreaks context.now to.now)) }
 {
     match to {
         None => Ok(Receiver::Nobody),
@@ -218,14 +197,11 @@ pub fn resolve_send(
     context: &Context,
     send: &tree::Send,
 ) -> Result<SendOperation, ModuleFault>
-    ensures stands { IfOk result (IsSend
-        context.now.scope.now context.now.variables.now (texts context.now.turns.now) send.now) }
-    ensures told { IsSoundScope context.now.scope.now → AreTyped context.now.variables.now
-        → IfErr result (TellsAt context.now.line (SendBreaks
-        context.now.scope.now context.now.variables.now (texts context.now.turns.now)
-        send.now)) }
+    ensures stands { IfOk result (here IsSend context.now send.now) }
+    ensures told { IsSoundHere context.now → AreTyped context.now.variables.now
+        → IfErr result (TellsAt context.now.line (here SendBreaks context.now send.now)) }
 {
-    let Some((place, port)) = find_port(context.scope.component_type, send.port.as_str()) else {
+    let Some((place, port)) = find_port(context.scope, send.port.as_str()) else {
         return Err(context.unknown());
     };
     let sendable = sendable(context.scope.behaviour, port);
@@ -244,12 +220,10 @@ fn resolve_wanted(
     receivable: &TypeList,
     template: &Option<MessageTemplate>,
 ) -> Result<RecvMsg, ModuleFault>
-    ensures stands { IfOk result (IsWanted
-        context.now.scope.now (texts context.now.turns.now) receivable.now template.now) }
-    ensures told { IsSoundScope context.now.scope.now
-        → IfErr result (TellsAt context.now.line (WantedBreaks
-        context.now.scope.now context.now.variables.now (texts context.now.turns.now)
-        receivable.now template.now)) }
+    ensures stands { IfOk result (IsWanted (visible_in context.now.scope.now)
+        (texts context.now.turns.now) receivable.now template.now) }
+    ensures told { IsSoundHere context.now → IfErr result (TellsAt context.now.line
+        (breaks_here WantedBreaks context.now receivable.now template.now)) }
 {
     let Some(template) = template else {
         return Ok(RecvMsg::Any);
@@ -268,11 +242,9 @@ fn resolve_sender(
     context: &Context,
     sender: &Option<ComponentName>,
 ) -> Result<Option<usize>, ModuleFault>
-    ensures stands { IfOk result (IsFrom
-        context.now.scope.now context.now.variables.now (texts context.now.turns.now) sender.now) }
-    ensures told { IfErr result (TellsAt context.now.line (FromBreaks
-        context.now.scope.now context.now.variables.now (texts context.now.turns.now)
-        sender.now)) }
+    ensures stands { IfOk result (here IsFrom context.now sender.now) }
+    ensures told { IfErr result
+        (TellsAt context.now.line (here FromBreaks context.now sender.now)) }
 {
     let Some(component) = sender else {
         return Ok(None);
@@ -290,10 +262,8 @@ fn resolve_value_target(
 ) -> Result<Option<usize>, ModuleFault>
     ensures stands { IfOk result (IsValueTarget
         context.now.variables.now (texts context.now.turns.now) wanted.now target.now) }
-    ensures told { AreTyped context.now.variables.now
-        → IfErr result (TellsAt context.now.line (ValueTargetBreaks
-        context.now.scope.now context.now.variables.now (texts context.now.turns.now)
-        wanted.now target.now)) }
+    ensures told { AreTyped context.now.variables.now → IfErr result
+        (TellsAt context.now.line (here ValueTargetBreaks context.now wanted.now target.now)) }
 {
     let Some(name) = target else {
         return Ok(None);
@@ -315,9 +285,7 @@ fn resolve_sender_target(
     ensures stands { IfOk result (IsSenderTarget
         context.now.variables.now (texts context.now.turns.now) target.now) }
     ensures told { AreTyped context.now.variables.now
-        → IfErr result (TellsAt context.now.line (SenderTargetBreaks
-        context.now.scope.now context.now.variables.now (texts context.now.turns.now)
-        target.now)) }
+        → IfErr result (TellsAt context.now.line (here SenderTargetBreaks context.now target.now)) }
 {
     let Some(name) = target else {
         return Ok(None);
@@ -335,14 +303,11 @@ pub fn resolve_receive(
     context: &Context,
     receive: &tree::Receive,
 ) -> Result<Receiving, ModuleFault>
-    ensures stands { IfOk result (IsReceive
-        context.now.scope.now context.now.variables.now (texts context.now.turns.now) receive.now) }
-    ensures told { IsSoundScope context.now.scope.now → AreTyped context.now.variables.now
-        → IfErr result (TellsAt context.now.line (ReceiveBreaks
-        context.now.scope.now context.now.variables.now (texts context.now.turns.now)
-        receive.now)) }
+    ensures stands { IfOk result (here IsReceive context.now receive.now) }
+    ensures told { IsSoundHere context.now → AreTyped context.now.variables.now
+        → IfErr result (TellsAt context.now.line (here ReceiveBreaks context.now receive.now)) }
 {
-    let Some((place, port)) = find_port(context.scope.component_type, receive.port.as_str()) else {
+    let Some((place, port)) = find_port(context.scope, receive.port.as_str()) else {
         return Err(context.unknown());
     };
     let receivable = receivable(context.scope.behaviour, port);

@@ -1,10 +1,7 @@
 //! The fields that the entries of a record stand for.
-ghost use Rattle.std.specs.Prelude.{◌≡◌, ◌<◌, ◌↔◌, ◌⊎◌, ℕ, List, [], true, IfErr, IfNone, IfOk, IfSome, IsTrue, OnOk};
-ghost use Rattle.std.specs.Prelude.{length, map, slice_get, slice_set};
-ghost use Rattle.std.specs.Bool.{OnFalse};
-ghost use Rattle.tp_checks.specs.Named.{IsAbsent};
-ghost use Rattle.tp_checks.specs.Refused.{TellsAt};
-ghost use Rattle.tp_checks.specs.Tables.{AreDistinct};
+ghost use Rattle.std.specs.Prelude.{◌≡◌, ◌<◌, ◌↔◌, ℕ, List, [], true, IfErr, IfNone, IfOk, IfSome, IsTrue, OnOk};
+ghost use Rattle.std.specs.{Prelude.length, Prelude.map, Prelude.slice_get, Prelude.slice_set, Bool.OnFalse};
+ghost use Rattle.tp_checks.specs.{Named.IsAbsent, Refused.TellsAt, Tables.AreDistinct};
 ghost use Rattle.tp_checks.specs.Placing.{HaveEntries, IsPlacing, IsTable, field_names};
 
 use crate::fault::{ModuleFault, ModuleRule, refused};
@@ -123,8 +120,7 @@ fn occupy(taken: &mut Vec<bool>, place: usize) -> bool
 }
 
 fn are_all(taken: &[bool]) -> bool
-    ensures { IsTrue result
-        ↔ ((k : ℕ) → k < length taken.now → slice_get taken.now k ≡ Some true) }
+    ensures { IsTrue result ↔ ((k : ℕ) → k < length taken.now → slice_get taken.now k ≡ Some true) }
 {
     for place in taken {
         if !*place {
@@ -144,9 +140,8 @@ pub fn field_places<E: NamedField>(
 ) -> Result<Vec<usize>, ModuleFault>
     ensures placed { IfOk result (λ places.
         IsPlacing fields.now (map E.name entries.now) places.items) }
-    ensures told { AreDistinct (field_names fields.now)
-        → IfErr result (TellsAt line (λ rule. (rule ≡ ModuleRule.WrongType)
-        × (HaveEntries fields.now (map E.name entries.now) → ⊥))) }
+    ensures told { AreDistinct (field_names fields.now) → IfErr result (TellsAt line (λ rule.
+        (rule ≡ ModuleRule.WrongType) × (HaveEntries fields.now (map E.name entries.now) → ⊥))) }
 {
     if entries.len() != fields.len() {
         return Err(refused(ModuleRule::WrongType, line));

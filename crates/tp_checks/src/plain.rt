@@ -2,10 +2,9 @@
 #![tactic(auto, using(crate::proofs::DefinitionLines::plain))]
 
 ghost use Rattle.std.specs.Prelude.{◌≡◌, IfErr, IfOk, OnOk};
-ghost use Rattle.tp_checks.specs.Named.{IsPlace, texts};
-ghost use Rattle.tp_checks.specs.Refused.{TellsAt};
-ghost use Rattle.tp_value.specs.HasType.{ArePrintable};
+ghost use Rattle.tp_checks.specs.{Named.IsPlace, Named.texts, Refused.TellsAt};
 ghost use Rattle.tp_checks.specs.BrokenValues.{ValueNameBreaks, TextBreaks};
+ghost use Rattle.tp_value.specs.HasType.{ArePrintable};
 
 use crate::context::Context;
 use crate::fault::ModuleFault;

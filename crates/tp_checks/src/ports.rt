@@ -1,13 +1,10 @@
 //! The component types of a module, with the types that their ports receive and send.
 ghost use Rattle.std.specs.Prelude.{◌≡◌, ◌+◌, ◌≤◌, ◌↔◌, ◌++◌, ◌∷◌, [], Contains, IfErr, IfNone, IfOk, IfSome, IsTrue};
 ghost use Rattle.std.specs.Prelude.{OnOk, All, length, map, slice_get};
-ghost use Rattle.std.specs.Option.{option_copied};
+ghost use Rattle.std.specs.{Option.option_copied, List.AllZip, List.flat_map};
 ghost use Rattle.tp_value.specs.declared.types.Ty.{Ty};
-ghost use Rattle.std.specs.List.{AllZip, flat_map};
 ghost use Rattle.tp_config.specs.Shape.{ports_of};
-ghost use Rattle.tp_checks.specs.Refused.{IsRefusedBy};
-ghost use Rattle.tp_checks.specs.Tables.{AreDistinct};
-ghost use Rattle.tp_checks.specs.Definitions.{declared};
+ghost use Rattle.tp_checks.specs.{Refused.IsRefusedBy, Tables.AreDistinct, Definitions.declared};
 ghost use Rattle.tp_checks.specs.Rules.{AreMessagesKnown, IsSoundComponent, NamesType};
 ghost use Rattle.tp_checks.specs.Resolved.{Appends, IsComponentType, IsMade, IsMadeOf, port_decl, IsPortType};
 ghost use Rattle.tp_checks.specs.Resolved.{IsTypeNamed, goes_in, goes_out, received_types, sent_types};
@@ -103,8 +100,7 @@ fn make_port_type(
     types: &NameSet,
     port_type: &tree::PortType,
 ) -> Result<PortType, ModuleFault>
-    ensures made { IfOk result (λ made.
-        IsPortType types.now port_type.now made.ins made.outs) }
+    ensures made { IfOk result (λ made. IsPortType types.now port_type.now made.ins made.outs) }
     ensures refused { IfErr result (IsRefusedBy (AreMessagesKnown types.now port_type.now)) }
 {
     let ins = received_types(alloc, types, port_type.directions.as_slice())?;

@@ -1,19 +1,14 @@
 //! The first three passes of the checks.
 ghost use Rattle.std.specs.Prelude.{◌≡◌, ◌≤◌, ◌∷◌, [], All, IfErr, IfOk, OnOk, length, map};
 ghost use Rattle.tp_config.specs.Shape.{ports_of};
-ghost use Rattle.tp_checks.specs.Refused.{IsRefusedBy, Tells};
-ghost use Rattle.tp_checks.specs.Broken.{DeclarationsBreak, ThirdPassBreaks};
-ghost use Rattle.tp_checks.specs.Rules.{AreComponentTypesKnown};
-ghost use Rattle.tp_tree.specs.declared.tree.Defined.{Defined};
-ghost use Rattle.tp_checks.specs.Components.{variables};
+ghost use Rattle.tp_checks.specs.{Refused.IsRefusedBy, Refused.Tells, Broken.DeclarationsBreak, Broken.ThirdPassBreaks};
+ghost use Rattle.tp_checks.specs.{Rules.AreComponentTypesKnown, Rules.HasUniqueNames, Components.variables};
 ghost use Rattle.tp_checks.specs.Configuring.{AreOwnPorts, AreSoundVariables, CanSetUp, IsConfigBySetup};
-ghost use Rattle.tp_checks.specs.Defining.{IsDefined};
-ghost use Rattle.tp_checks.specs.Definitions.{BeginsAmong, test_cases};
-ghost use Rattle.tp_checks.specs.Prepared.{IsPreparedOf, IsWellDeclared};
-ghost use Rattle.tp_checks.specs.Rules.{HasUniqueNames};
+ghost use Rattle.tp_checks.specs.{Defining.IsDefined, Definitions.BeginsAmong, Definitions.test_cases};
+ghost use Rattle.tp_checks.specs.{Prepared.IsPreparedOf, Prepared.IsWellDeclared, Starting.AreStarts};
 ghost use Rattle.tp_checks.specs.Sorted.{AreComponentsNamed, AreFunctionsNamed, HasSoundDefinitions};
-ghost use Rattle.tp_checks.specs.Sorted.{component_types_in, functions_in};
-ghost use Rattle.tp_checks.specs.Starting.{AreStarts};
+ghost use Rattle.tp_checks.specs.Sorted.{component_types_in, functions_in, in_sorted};
+ghost use Rattle.tp_tree.specs.declared.tree.Defined.{Defined};
 ghost use Rattle.tp_checks.specs.declared.starts.Starts.{Starts};
 
 use crate::definitions::{Definitions, define};
@@ -59,21 +54,17 @@ fn set_up_and_start<'m>(
     requires few { All (λ t. length t.ports.entries ≤ 64) components.items }
     ensures config { IfOk result (λ c. IsConfigBySetup sorted.now.component_names
         (map ports_of components.items) case.entry.case.now c.made.config) }
-    ensures variables { IfOk result (λ c. c.made.variables
-        ≡ variables case.entry.case.now.setups) }
-    ensures sound { OnOk result (AreSoundVariables sorted.now.component_names
-        (component_types_in sorted.now) case.entry.case.now) }
+    ensures variables { IfOk result (λ c. c.made.variables ≡ variables case.entry.case.now.setups) }
+    ensures sound { OnOk result (in_sorted AreSoundVariables sorted.now case.entry.case.now) }
     ensures starts { IfOk result (λ c.
         AreStarts (functions_in sorted.now) case.entry.case.now c.starts) }
     ensures refused { AreOwnPorts (component_types_in sorted.now) (map ports_of components.items)
-        → IfErr result (IsRefusedBy (CanSetUp sorted.now.component_names
-        (component_types_in sorted.now) (map ports_of components.items) case.entry.case.now
-        × ((starts : Starts)
-        × AreStarts (functions_in sorted.now) case.entry.case.now starts))) }
+        → IfErr result (IsRefusedBy
+        (in_sorted CanSetUp sorted.now (map ports_of components.items) case.entry.case.now
+        × ((starts : Starts) × AreStarts (functions_in sorted.now) case.entry.case.now starts))) }
     ensures told { AreOwnPorts (component_types_in sorted.now) (map ports_of components.items)
         → AreComponentTypesKnown sorted.now.component_names (Defined.TestCase case.entry.case.now)
-        → IfErr result (Tells (ThirdPassBreaks sorted.now.component_names
-        (component_types_in sorted.now) (map ports_of components.items)
+        → IfErr result (Tells (in_sorted ThirdPassBreaks sorted.now (map ports_of components.items)
         (functions_in sorted.now) case.entry.case.now case.entry.line)) }
 {
     let made = set_up(alloc, sorted, case, components)?;

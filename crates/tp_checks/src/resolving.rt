@@ -1,9 +1,7 @@
 //! The types that names stand for, and the message types of a module.
 ghost use Rattle.std.specs.Prelude.{◌≡◌, ◌∷◌, ◌++◌, [], ℕ, All, List, IfErr, IfOk, IsSome, OnOk, map, is_some};
 ghost use Rattle.std.specs.List.{AllZip, list_all};
-ghost use Rattle.tp_checks.specs.Refused.{IsRefusedBy};
-ghost use Rattle.tp_checks.specs.Tables.{IsNumbered};
-ghost use Rattle.tp_checks.specs.Definitions.{name_of, type_of};
+ghost use Rattle.tp_checks.specs.{Refused.IsRefusedBy, Tables.IsNumbered, Definitions.name_of, Definitions.type_of};
 ghost use Rattle.tp_checks.specs.Rules.{AreSoundTypes, AreTypesKnown, NamesType};
 ghost use Rattle.tp_checks.specs.Resolved.{IsField, IsNamedType, IsTypeDef, ty_of};
 ghost use Rattle.tp_value.specs.declared.types.TypeDef.{TypeDef};

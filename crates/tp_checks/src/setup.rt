@@ -2,24 +2,20 @@
 #![tactic(auto, using(crate::proofs::PairFaultsTold::pairs))]
 
 ghost use Rattle.std.specs.Prelude.{◌≡◌, ◌≤◌, ◌++◌, ◌∷◌, [], codes, All, IfErr, IfNone, IfOk, IfSome, None, OnOk};
-ghost use Rattle.std.specs.Prelude.{length, map};
-ghost use Rattle.tp_checks.specs.Refused.{IsRefusedBy, Tells, TellsAt};
-ghost use Rattle.tp_checks.specs.Tables.{IsNumbered};
-ghost use Rattle.tp_config.specs.declared.port_type.PortRef.{PortRef};
-ghost use Rattle.tp_config.specs.Setup.{Setup, empty_setup};
-ghost use Rattle.tp_config.specs.Shape.{ports_of};
-ghost use Rattle.tp_checks.specs.Additions.{StopsCreating};
+ghost use Rattle.std.specs.{Prelude.length, Prelude.map, Option.option_map, Option.option_to_list};
+ghost use Rattle.tp_checks.specs.{Refused.IsRefusedBy, Refused.Tells, Refused.TellsAt, Tables.IsNumbered};
+ghost use Rattle.tp_checks.specs.{Additions.StopsCreating, BrokenSetup.PairsBreak, BrokenSetup.SetupBreaks};
 ghost use Rattle.tp_checks.specs.BrokenSetup.{CaseSetupBreaks, ConnectBreaks, EndsBreak, MapBreaks, PairBreaks};
-ghost use Rattle.tp_checks.specs.BrokenSetup.{PairsBreak, SetupBreaks};
 ghost use Rattle.tp_checks.specs.Rules.{AreComponentTypesKnown};
-ghost use Rattle.tp_tree.specs.declared.tree.Defined.{Defined};
-ghost use Rattle.tp_checks.specs.Sorted.{AreComponentsNamed, component_types_in};
-ghost use Rattle.std.specs.Option.{option_map, option_to_list};
+ghost use Rattle.tp_checks.specs.Sorted.{AreComponentsNamed, component_types_in, in_sorted};
 ghost use Rattle.tp_checks.specs.Components.{AddsAll, HasSoundVariables, created, creation_of, creations};
 ghost use Rattle.tp_checks.specs.Components.{main_component, component_number, variable_name, variables};
 ghost use Rattle.tp_checks.specs.Configuring.{AreOwnPorts, AreSoundVariables, CanSetUp, CanSetUpBeside, Connects};
 ghost use Rattle.tp_checks.specs.Configuring.{HasFirst, HaveOwnPorts, HavePorts, IsPortOfEnd, IsConfigBySetup, IsStep};
 ghost use Rattle.tp_checks.specs.Configuring.{Makes, Maps, end_component_number, most_variables};
+ghost use Rattle.tp_config.specs.declared.port_type.PortRef.{PortRef};
+ghost use Rattle.tp_config.specs.{Setup.Setup, Setup.empty_setup, Shape.ports_of};
+ghost use Rattle.tp_tree.specs.declared.tree.Defined.{Defined};
 
 use crate::components::{
     DeclaredComponent, StoppedCreation, VariableRules, add_component, add_interface,
@@ -84,8 +80,8 @@ fn find_ends(
         IsPortOfEnd config.now known.now (component_number system) ends.entry.0.now ports.0) }
     ensures second { IfOk result (λ ports.
         IsPortOfEnd config.now known.now (component_number system) ends.entry.1.now ports.1) }
-    ensures refused { IsNumbered known.now
-        → IfErr result (IsRefusedBy ((p : PortRef) × (q : PortRef)
+    ensures refused { IsNumbered known.now → IfErr result (IsRefusedBy (
+        (p : PortRef) × (q : PortRef)
         × IsPortOfEnd config.now known.now (component_number system) ends.entry.0.now p
         × IsPortOfEnd config.now known.now (component_number system) ends.entry.1.now q)) }
     ensures told { IsNumbered known.now → IfErr result (TellsAt line (EndsBreak config.now
@@ -156,10 +152,9 @@ fn add_setup<'m>(
         × IsStep config.old known.old (component_number system) setup.now.action t)
         × IsNumbered (known.old
         ++ option_to_list (option_map variable_name (creation_of setup.now))))) }
-    ensures told { IsNumbered known.old → IsNumbered (known.old
-        ++ option_to_list (option_map variable_name (creation_of setup.now)))
-        → IfErr result (TellsAt setup.now.line (PairBreaks config.old known.old
-        (component_number system) setup.now.action)) }
+    ensures told { IsNumbered known.old → IsNumbered (known.old ++ option_to_list
+        (option_map variable_name (creation_of setup.now))) → IfErr result (TellsAt setup.now.line
+        (PairBreaks config.old known.old (component_number system) setup.now.action)) }
 {
     let line = setup.line;
     match &setup.action {
@@ -238,8 +233,8 @@ fn first_fault(
         config.old.types case.entry.case.now) result }
     ensures told { HavePorts rules.now.type_names.now config.old.types
         → AreComponentTypesKnown rules.now.type_names.now (Defined.TestCase case.entry.case.now)
-        → StopsCreating rules.now.type_names.now rules.now.port_names.now (codes "mtc" ∷ [])
-        (most_variables case.entry.case.now) case.entry.case.now.setups
+        → StopsCreating rules.now.type_names.now rules.now.port_names.now
+        (codes "mtc" ∷ []) (most_variables case.entry.case.now) case.entry.case.now.setups
         stopped.entry.before.now stopped.entry.fault
         → Tells (SetupBreaks rules.now.type_names.now rules.now.port_names.now config.old.types
         case.entry.case.now case.entry.line) result }
@@ -270,10 +265,9 @@ fn create_beside(
         (map created (creations case.entry.case.now.setups)) config.old config.new) }
     ensures refused { HavePorts types.now config.old.types → IfErr result (IsRefusedBy (
         CanSetUpBeside types.now ports.now config.old.types case.entry.case.now)) }
-    ensures told { HavePorts types.now config.old.types
-        → AreComponentTypesKnown types.now (Defined.TestCase case.entry.case.now)
-        → IfErr result (Tells (SetupBreaks types.now ports.now config.old.types
-        case.entry.case.now case.entry.line)) }
+    ensures told { HavePorts types.now config.old.types → AreComponentTypesKnown types.now
+        (Defined.TestCase case.entry.case.now) → IfErr result (Tells
+        (SetupBreaks types.now ports.now config.old.types case.entry.case.now case.entry.line)) }
 {
     let rules = VariableRules {
         type_names: types,
@@ -295,17 +289,15 @@ fn create_all(
     requires named { AreComponentsNamed sorted.now }
     requires main { AddsAll sorted.now.component_names (main_component case.case.now ∷ [])
         (empty_setup config.old.types) config.old }
-    ensures sound { OnOk result (AreSoundVariables sorted.now.component_names
-        (component_types_in sorted.now) case.entry.case.now) }
+    ensures sound { OnOk result (in_sorted AreSoundVariables sorted.now case.entry.case.now) }
     ensures added { OnOk result (AddsAll sorted.now.component_names
         (map created (creations case.entry.case.now.setups)) config.old config.new) }
-    ensures refused { AreOwnPorts (component_types_in sorted.now) config.old.types
-        → IfErr result (IsRefusedBy (CanSetUp sorted.now.component_names
-        (component_types_in sorted.now) config.old.types case.entry.case.now)) }
+    ensures refused { AreOwnPorts (component_types_in sorted.now) config.old.types → IfErr result
+        (IsRefusedBy (in_sorted CanSetUp sorted.now config.old.types case.entry.case.now)) }
     ensures told { AreOwnPorts (component_types_in sorted.now) config.old.types
         → AreComponentTypesKnown sorted.now.component_names (Defined.TestCase case.entry.case.now)
-        → IfErr result (Tells (CaseSetupBreaks sorted.now.component_names
-        (component_types_in sorted.now) config.old.types case.entry.case.now case.entry.line)) }
+        → IfErr result (Tells (in_sorted
+        CaseSetupBreaks sorted.now config.old.types case.entry.case.now case.entry.line)) }
 {
     let runs_on = case.case.runs_on.as_str();
     let ports = ports_of_type(alloc, sorted, runs_on, case.line)?;
@@ -320,19 +312,16 @@ fn add_components(
 ) -> Result<(), ModuleFault>
     requires named { AreComponentsNamed sorted.now }
     requires empty { config.old ≡ empty_setup config.old.types }
-    ensures added { OnOk result (AddsAll sorted.now.component_names
-        (main_component case.entry.case.now
-        ∷ map created (creations case.entry.case.now.setups))
-        config.old config.new) }
-    ensures sound { OnOk result (AreSoundVariables sorted.now.component_names
-        (component_types_in sorted.now) case.entry.case.now) }
-    ensures refused { AreOwnPorts (component_types_in sorted.now) config.old.types
-        → IfErr result (IsRefusedBy (CanSetUp sorted.now.component_names
-        (component_types_in sorted.now) config.old.types case.entry.case.now)) }
+    ensures added { OnOk result
+        (AddsAll sorted.now.component_names (main_component case.entry.case.now ∷ map created
+        (creations case.entry.case.now.setups)) config.old config.new) }
+    ensures sound { OnOk result (in_sorted AreSoundVariables sorted.now case.entry.case.now) }
+    ensures refused { AreOwnPorts (component_types_in sorted.now) config.old.types → IfErr result
+        (IsRefusedBy (in_sorted CanSetUp sorted.now config.old.types case.entry.case.now)) }
     ensures told { AreOwnPorts (component_types_in sorted.now) config.old.types
         → AreComponentTypesKnown sorted.now.component_names (Defined.TestCase case.entry.case.now)
-        → IfErr result (Tells (CaseSetupBreaks sorted.now.component_names
-        (component_types_in sorted.now) config.old.types case.entry.case.now case.entry.line)) }
+        → IfErr result (Tells (in_sorted
+        CaseSetupBreaks sorted.now config.old.types case.entry.case.now case.entry.line)) }
 {
     let main = DeclaredComponent {
         name: "mtc",
@@ -356,15 +345,13 @@ fn configure<'m>(
         case.entry.case.now config.new) }
     ensures variables { IfOk result (λ known. known ≡ variables case.entry.case.now.setups) }
     ensures numbered { IfOk result (λ known. IsNumbered known) }
-    ensures sound { OnOk result (AreSoundVariables sorted.now.component_names
-        (component_types_in sorted.now) case.entry.case.now) }
-    ensures refused { AreOwnPorts (component_types_in sorted.now) config.old.types
-        → IfErr result (IsRefusedBy (CanSetUp sorted.now.component_names
-        (component_types_in sorted.now) config.old.types case.entry.case.now)) }
+    ensures sound { OnOk result (in_sorted AreSoundVariables sorted.now case.entry.case.now) }
+    ensures refused { AreOwnPorts (component_types_in sorted.now) config.old.types → IfErr result
+        (IsRefusedBy (in_sorted CanSetUp sorted.now config.old.types case.entry.case.now)) }
     ensures told { AreOwnPorts (component_types_in sorted.now) config.old.types
         → AreComponentTypesKnown sorted.now.component_names (Defined.TestCase case.entry.case.now)
-        → IfErr result (Tells (CaseSetupBreaks sorted.now.component_names
-        (component_types_in sorted.now) config.old.types case.entry.case.now case.entry.line)) }
+        → IfErr result (Tells (in_sorted
+        CaseSetupBreaks sorted.now config.old.types case.entry.case.now case.entry.line)) }
 {
     add_components(alloc, &mut *config, sorted, case)?;
     let types = &sorted.component_names;
@@ -387,18 +374,16 @@ pub fn set_up<'m>(
     requires few { All (λ t. length t.ports.entries ≤ 64) components.items }
     ensures config { IfOk result (λ s. IsConfigBySetup sorted.now.component_names
         (map ports_of components.items) case.entry.case.now s.config) }
-    ensures variables { IfOk result (λ s. s.variables
-        ≡ variables case.entry.case.now.setups) }
+    ensures variables { IfOk result (λ s. s.variables ≡ variables case.entry.case.now.setups) }
     ensures numbered { IfOk result (λ s. IsNumbered s.variables) }
-    ensures sound { OnOk result (AreSoundVariables sorted.now.component_names
-        (component_types_in sorted.now) case.entry.case.now) }
+    ensures sound { OnOk result (in_sorted AreSoundVariables sorted.now case.entry.case.now) }
     ensures refused { AreOwnPorts (component_types_in sorted.now) (map ports_of components.items)
-        → IfErr result (IsRefusedBy (CanSetUp sorted.now.component_names
-        (component_types_in sorted.now) (map ports_of components.items) case.entry.case.now)) }
+        → IfErr result (IsRefusedBy
+        (in_sorted CanSetUp sorted.now (map ports_of components.items) case.entry.case.now)) }
     ensures told { AreOwnPorts (component_types_in sorted.now) (map ports_of components.items)
         → AreComponentTypesKnown sorted.now.component_names (Defined.TestCase case.entry.case.now)
-        → IfErr result (Tells (CaseSetupBreaks sorted.now.component_names (component_types_in
-        sorted.now) (map ports_of components.items) case.entry.case.now case.entry.line)) }
+        → IfErr result (Tells (in_sorted CaseSetupBreaks sorted.now
+        (map ports_of components.items) case.entry.case.now case.entry.line)) }
 {
     let mut config = Config::new(alloc, components);
     let variables = configure(alloc, &mut config, sorted, case)?;

@@ -2,10 +2,8 @@
 ghost use Rattle.std.specs.Prelude.{◌≡◌, ℕ, List, Option, IfErr, IfOk, map, slice_get};
 ghost use Rattle.std.specs.Option.{option_copied};
 ghost use Rattle.tp_tree.specs.declared.tree.Defined.{Defined};
-ghost use Rattle.tp_checks.specs.Refused.{IsRefusedBy};
-ghost use Rattle.tp_checks.specs.Tables.{IsNumbered};
+ghost use Rattle.tp_checks.specs.{Refused.IsRefusedBy, Tables.IsNumbered, Rules.HasUniqueNames};
 ghost use Rattle.tp_checks.specs.Definitions.{of_kind, component_type_of, function_of, name_of, port_type_of, type_of};
-ghost use Rattle.tp_checks.specs.Rules.{HasUniqueNames};
 ghost use Rattle.tp_checks.specs.Sorted.{AreOfKind, AreSorted};
 
 use crate::fault::ModuleFault;

@@ -3,20 +3,17 @@
 
 ghost use Rattle.std.specs.Prelude.{◌≡◌, ◌∷◌, ◌++◌, ◌↔◌, [], ◌<◌, ℕ, List, Contains, IfErr, IfNone, IfOk, IfSome};
 ghost use Rattle.std.specs.Prelude.{IsSome, IsTrue, None, OnOk, Some, length, map, slice_get};
-ghost use Rattle.std.specs.Option.{option_copied};
-ghost use Rattle.std.specs.List.{AllZip};
-ghost use Rattle.tp_checks.specs.Sorted.{AreFunctionsNamed, functions_in};
-ghost use Rattle.tp_checks.specs.Tables.{IsNumbered};
+ghost use Rattle.std.specs.{Option.option_copied, List.AllZip};
+ghost use Rattle.tp_checks.specs.{Sorted.AreFunctionsNamed, Sorted.functions_in, Tables.IsNumbered};
 ghost use Rattle.tp_checks.specs.Refused.{IsRefusedBy, Tells, TellsAt};
 ghost use Rattle.tp_checks.specs.BrokenStarts.{AfterStartsBreaks, ArgumentBreaks, ArgumentsBreak, IsNeverStarted};
 ghost use Rattle.tp_checks.specs.BrokenStarts.{StartBreaks, StartBreaksAmong, StartsBreak};
-ghost use Rattle.tp_tree.specs.declared.tree.Function.{Function};
-ghost use Rattle.tp_config.specs.declared.port_type.CompId.{CompId};
-ghost use Rattle.tp_checks.specs.declared.starts.StartedComponent.{StartedComponent};
-ghost use Rattle.tp_checks.specs.declared.starts.Starts.{Starts};
 ghost use Rattle.tp_checks.specs.Components.{creations, variables};
 ghost use Rattle.tp_checks.specs.Starting.{AreStarts, HasParameterType, IsArgument, IsStartPlace, IsStartOf};
 ghost use Rattle.tp_checks.specs.Starting.{component_named, started_names, type_names_of};
+ghost use Rattle.tp_tree.specs.declared.tree.Function.{Function};
+ghost use Rattle.tp_config.specs.declared.port_type.CompId.{CompId};
+ghost use Rattle.tp_checks.specs.declared.starts.{StartedComponent.StartedComponent, Starts.Starts};
 
 use crate::components::{as_creation, variable_component};
 use crate::definitions::is_sut;
@@ -97,9 +94,8 @@ fn check_arguments(
     ensures refused { IsNumbered variables.now → IfErr result (IsRefusedBy ((made : List CompId)
         × AllZip (IsArgument variables.now) start.now.arguments made
         × AllZip (HasParameterType (map (λ t. t.now) types.now)) parameters.now made)) }
-    ensures told { IsNumbered variables.now → IfErr result (TellsAt start.now.line (
-        ArgumentsBreak variables.now (map (λ t. t.now) types.now) parameters.now
-        start.now.arguments)) }
+    ensures told { IsNumbered variables.now → IfErr result (TellsAt start.now.line (ArgumentsBreak
+        variables.now (map (λ t. t.now) types.now) parameters.now start.now.arguments)) }
 {
     let arguments = start.arguments.as_slice();
     if arguments.len() != parameters.len() {
@@ -182,14 +178,11 @@ fn add_started<'m>(
     started: &mut NameSet<'m>,
     start: &'m ComponentStart,
 ) -> Result<(), ModuleFault>
-    ensures added { OnOk result (started.new
-        ≡ started.old ++ start.now.component ∷ []) }
+    ensures added { OnOk result (started.new ≡ started.old ++ start.now.component ∷ []) }
     ensures numbered { OnOk result (IsNumbered started.new) }
     ensures told { (functions : List Function) → (types : List (List ℕ)) → IfErr result (
-        TellsAt start.now.line (
-        StartBreaks functions variables.now types started.old start.now)) }
-    ensures refused { IfErr result (IsRefusedBy (
-        Contains variables.now start.now.component
+        TellsAt start.now.line (StartBreaks functions variables.now types started.old start.now)) }
+    ensures refused { IfErr result (IsRefusedBy (Contains variables.now start.now.component
         × IsNumbered (started.old ++ start.now.component ∷ []))) }
 {
     if !variables.has(start.component.as_str()) {
@@ -249,18 +242,15 @@ fn check_each<'m>(
     starts: &'m [ComponentStart],
 ) -> Result<(NameSet<'m>, Vec<StartedComponent>), ModuleFault>
     requires { AreFunctionsNamed sorted.now }
-    ensures started { IfOk result (λ r. AllZip
-        (IsStartOf (functions_in sorted.now) variables.now (map (λ t. t.now) types.now))
-        starts.now r.1.items) }
+    ensures started { IfOk result (λ r. AllZip (IsStartOf (functions_in sorted.now) variables.now
+        (map (λ t. t.now) types.now)) starts.now r.1.items) }
     ensures names { IfOk result (λ r. r.0 ≡ started_names starts.now) }
     ensures numbered { IfOk result (λ r. IsNumbered r.0) }
-    ensures refused { IsNumbered variables.now → IfErr result (IsRefusedBy (
-        (made : List StartedComponent) × AllZip (IsStartOf (functions_in sorted.now)
-        variables.now (map (λ t. t.now) types.now)) starts.now made
-        × IsNumbered (started_names starts.now))) }
-    ensures told { IsNumbered variables.now → IfErr result (Tells (
-        StartBreaksAmong (functions_in sorted.now) variables.now (map (λ t. t.now) types.now)
-        starts.now)) }
+    ensures refused { IsNumbered variables.now → IfErr result (IsRefusedBy
+        ((made : List StartedComponent) × AllZip (IsStartOf (functions_in sorted.now) variables.now
+        (map (λ t. t.now) types.now)) starts.now made × IsNumbered (started_names starts.now))) }
+    ensures told { IsNumbered variables.now → IfErr result (Tells (StartBreaksAmong
+        (functions_in sorted.now) variables.now (map (λ t. t.now) types.now) starts.now)) }
 {
     let mut names = NameSet::new(alloc);
     let mut started = Vec::new(alloc);
@@ -279,15 +269,13 @@ fn start_all<'m>(
     names: &NameSet,
 ) -> Result<(NameSet<'m>, Vec<StartedComponent>), ModuleFault>
     requires { AreFunctionsNamed sorted.now }
-    ensures started { IfOk result (λ r. AllZip
-        (IsStartOf (functions_in sorted.now) names.now (type_names_of case.now))
-        case.now.starts r.1.items) }
+    ensures started { IfOk result (λ r. AllZip (IsStartOf
+        (functions_in sorted.now) names.now (type_names_of case.now)) case.now.starts r.1.items) }
     ensures names { IfOk result (λ r. r.0 ≡ started_names case.now.starts) }
     ensures numbered { IfOk result (λ r. IsNumbered r.0) }
-    ensures refused { IsNumbered names.now → IfErr result (IsRefusedBy (
-        (made : List StartedComponent) × AllZip (IsStartOf (functions_in sorted.now) names.now
-        (type_names_of case.now)) case.now.starts made
-        × IsNumbered (started_names case.now.starts))) }
+    ensures refused { IsNumbered names.now → IfErr result (IsRefusedBy ((made : List
+        StartedComponent) × AllZip (IsStartOf (functions_in sorted.now) names.now (type_names_of
+        case.now)) case.now.starts made × IsNumbered (started_names case.now.starts))) }
     ensures told { IsNumbered names.now → IfErr result (Tells (StartBreaksAmong
         (functions_in sorted.now) names.now (type_names_of case.now) case.now.starts)) }
 {
@@ -301,9 +289,8 @@ fn place_starts(alloc: Global, started: &NameSet, case: CaseAt<'_>) -> Result<Ve
     ensures done { OnOk result (0 < length (creations case.entry.case.now.setups)
         → IsSome case.entry.case.now.all_done) }
     ensures refused { IfErr result (IsRefusedBy (((places : List ℕ) × AllZip
-        (IsStartPlace started.now) (variables case.entry.case.now.setups) places)
-        × (0 < length (creations case.entry.case.now.setups)
-        → IsSome case.entry.case.now.all_done))) }
+        (IsStartPlace started.now) (variables case.entry.case.now.setups) places) × (0 < length
+        (creations case.entry.case.now.setups) → IsSome case.entry.case.now.all_done))) }
     ensures told { IfErr result (Tells (
         AfterStartsBreaks started.now case.entry.case.now case.entry.line)) }
 {

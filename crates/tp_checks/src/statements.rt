@@ -2,13 +2,11 @@
 #![tactic(auto, using(crate::proofs::DefinitionLines::statements))]
 
 ghost use Rattle.std.specs.Prelude.{◌≡◌, ◌∷◌, ◌++◌, [], IfErr, IfOk, List, length};
-ghost use Rattle.tp_checks.specs.Named.{texts};
-ghost use Rattle.tp_checks.specs.Refused.{IsRefusedBy, Tells};
+ghost use Rattle.tp_checks.specs.{Named.texts, Refused.IsRefusedBy, Refused.Tells, BrokenBodies.StatementBreaks};
 ghost use Rattle.tp_checks.specs.Bodies.{AreBranches, IsAfter, IsBlock, IsBody, IsBranch, IsStatement};
 ghost use Rattle.tp_checks.specs.BrokenBodies.{AfterBreaks, BlockBreaks, BodyBreaks, BranchBreaks, BranchesBreak};
-ghost use Rattle.tp_checks.specs.BrokenBodies.{StatementBreaks};
 ghost use Rattle.tp_checks.specs.NeededLoopVariables.{needed_around_all};
-ghost use Rattle.tp_checks.specs.Scoping.{AreTyped, IsSoundScope, reference_count};
+ghost use Rattle.tp_checks.specs.Scoping.{AreTyped, IsSoundHere, IsSoundScope, here, reference_count, visible_in};
 ghost use Rattle.tp_play.specs.Playable.{IsPlayable};
 
 use crate::context::Context;
@@ -46,16 +44,12 @@ fn counted_for(turns: &Turns, block: Items<ResolvedStatement>) -> ResolvedStatem
 }
 
 fn resolve_control(context: &Context, control: &Control) -> Result<ResolvedStatement, ModuleFault>
-    ensures stands { IfOk result (IsStatement
-        context.now.scope.now context.now.variables.now (texts context.now.turns.now)
-        (Action.Control control.now)) }
-    ensures told { IsSoundScope context.now.scope.now
-        → IfErr result (Tells (StatementBreaks
-        context.now.scope.now context.now.variables.now (texts context.now.turns.now)
-        context.now.line (Action.Control control.now))) }
+    ensures stands { IfOk result (here IsStatement context.now (Action.Control control.now)) }
+    ensures told { IsSoundHere context.now → IfErr result
+        (Tells (here StatementBreaks context.now context.now.line (Action.Control control.now))) }
 {
     context.check_not_in_sut()?;
-    let Some((place, _)) = find_port(context.scope.component_type, control.port.as_str()) else {
+    let Some((place, _)) = find_port(context.scope, control.port.as_str()) else {
         return Err(context.unknown());
     };
     Ok(ResolvedStatement::Control(place, control.operation))
@@ -65,12 +59,9 @@ fn resolve_all_ports(
     context: &Context,
     operation: PortOperation,
 ) -> Result<ResolvedStatement, ModuleFault>
-    ensures stands { IfOk result (IsStatement
-        context.now.scope.now context.now.variables.now (texts context.now.turns.now)
-        (Action.AllPorts operation)) }
-    ensures told { IfErr result (Tells (StatementBreaks
-        context.now.scope.now context.now.variables.now (texts context.now.turns.now)
-        context.now.line (Action.AllPorts operation))) }
+    ensures stands { IfOk result (here IsStatement context.now (Action.AllPorts operation)) }
+    ensures told { IfErr result
+        (Tells (here StatementBreaks context.now context.now.line (Action.AllPorts operation))) }
 {
     context.check_not_in_sut()?;
     Ok(ResolvedStatement::AllPorts(operation))
@@ -80,12 +71,9 @@ fn resolve_set_verdict(
     context: &Context,
     name: VerdictName,
 ) -> Result<ResolvedStatement, ModuleFault>
-    ensures stands { IfOk result (IsStatement
-        context.now.scope.now context.now.variables.now (texts context.now.turns.now)
-        (Action.SetVerdict name)) }
-    ensures told { IfErr result (Tells (StatementBreaks
-        context.now.scope.now context.now.variables.now (texts context.now.turns.now)
-        context.now.line (Action.SetVerdict name))) }
+    ensures stands { IfOk result (here IsStatement context.now (Action.SetVerdict name)) }
+    ensures told { IfErr result
+        (Tells (here StatementBreaks context.now context.now.line (Action.SetVerdict name))) }
 {
     context.check_not_in_sut()?;
     let verdict = resolve_verdict(context, name)?;
@@ -101,12 +89,9 @@ fn resolve_statement<'m>(
     context: &Context<'_, '_, 'm>,
     action: &'m Action,
 ) -> Result<ResolvedStatement, ModuleFault>
-    ensures stands { IfOk result (IsStatement
-        context.now.scope.now context.now.variables.now (texts context.now.turns.now) action.now) }
-    ensures told { IsSoundScope context.now.scope.now → AreTyped context.now.variables.now
-        → IfErr result (Tells (StatementBreaks
-        context.now.scope.now context.now.variables.now (texts context.now.turns.now)
-        context.now.line action.now)) }
+    ensures stands { IfOk result (here IsStatement context.now action.now) }
+    ensures told { IsSoundHere context.now → AreTyped context.now.variables.now
+        → IfErr result (Tells (here StatementBreaks context.now context.now.line action.now)) }
 {
     match action {
         Action::Send(send) => {
@@ -138,13 +123,9 @@ fn resolve_for<'m>(
     context: &Context<'_, '_, 'm>,
     looped: &'m Counted,
 ) -> Result<ResolvedStatement, ModuleFault>
-    ensures stands { IfOk result (IsStatement
-        context.now.scope.now context.now.variables.now (texts context.now.turns.now)
-        (Action.For looped.now)) }
-    ensures told { IsSoundScope context.now.scope.now → AreTyped context.now.variables.now
-        → IfErr result (Tells (StatementBreaks
-        context.now.scope.now context.now.variables.now (texts context.now.turns.now)
-        context.now.line (Action.For looped.now))) }
+    ensures stands { IfOk result (here IsStatement context.now (Action.For looped.now)) }
+    ensures told { IsSoundHere context.now → AreTyped context.now.variables.now → IfErr result
+        (Tells (here StatementBreaks context.now context.now.line (Action.For looped.now))) }
 {
     let name = looped.turns.name.as_str();
     if !is_new(context, name) {
@@ -165,12 +146,9 @@ fn resolve_block<'m>(
     context: &Context<'_, '_, 'm>,
     block: &'m [tree::Statement],
 ) -> Result<Items<ResolvedStatement>, ModuleFault>
-    ensures stands { IfOk result (IsBlock
-        context.now.scope.now context.now.variables.now (texts context.now.turns.now) block.now) }
-    ensures told { IsSoundScope context.now.scope.now → AreTyped context.now.variables.now
-        → IfErr result (Tells (BlockBreaks
-        context.now.scope.now context.now.variables.now (texts context.now.turns.now)
-        block.now)) }
+    ensures stands { IfOk result (here IsBlock context.now block.now) }
+    ensures told { IsSoundHere context.now → AreTyped context.now.variables.now
+        → IfErr result (Tells (here BlockBreaks context.now block.now)) }
 {
     let mut made = Items::new(alloc);
     for statement in block {
@@ -190,12 +168,9 @@ fn resolve_after<'m>(
     context: &Context<'_, '_, 'm>,
     body: &'m BranchBody,
 ) -> Result<Items<ResolvedStatement>, ModuleFault>
-    ensures stands { IfOk result (IsAfter
-        context.now.scope.now context.now.variables.now (texts context.now.turns.now) body.now) }
-    ensures told { IsSoundScope context.now.scope.now → AreTyped context.now.variables.now
-        → IfErr result (Tells (AfterBreaks
-        context.now.scope.now context.now.variables.now (texts context.now.turns.now)
-        body.now)) }
+    ensures stands { IfOk result (here IsAfter context.now body.now) }
+    ensures told { IsSoundHere context.now → AreTyped context.now.variables.now
+        → IfErr result (Tells (here AfterBreaks context.now body.now)) }
 {
     match body {
         BranchBody::Nothing => Ok(Items::new(alloc)),
@@ -209,12 +184,9 @@ fn resolve_branch<'m>(
     context: &Context<'_, '_, 'm>,
     branch: &'m tree::Branch,
 ) -> Result<ResolvedBranch, ModuleFault>
-    ensures stands { IfOk result (IsBranch
-        context.now.scope.now context.now.variables.now (texts context.now.turns.now) branch.now) }
-    ensures told { IsSoundScope context.now.scope.now → AreTyped context.now.variables.now
-        → IfErr result (Tells (BranchBreaks
-        context.now.scope.now context.now.variables.now (texts context.now.turns.now)
-        branch.now)) }
+    ensures stands { IfOk result (here IsBranch context.now branch.now) }
+    ensures told { IsSoundHere context.now → AreTyped context.now.variables.now
+        → IfErr result (Tells (here BranchBreaks context.now branch.now)) }
 {
     let here = Context {
         line: branch.line,
@@ -231,13 +203,9 @@ fn resolve_branches<'m>(
     context: &Context<'_, '_, 'm>,
     branches: &'m [tree::Branch],
 ) -> Result<Items<ResolvedBranch>, ModuleFault>
-    ensures stands { IfOk result (AreBranches
-        context.now.scope.now context.now.variables.now (texts context.now.turns.now)
-        branches.now) }
-    ensures told { IsSoundScope context.now.scope.now → AreTyped context.now.variables.now
-        → IfErr result (Tells (BranchesBreak
-        context.now.scope.now context.now.variables.now (texts context.now.turns.now)
-        branches.now)) }
+    ensures stands { IfOk result (here AreBranches context.now branches.now) }
+    ensures told { IsSoundHere context.now → AreTyped context.now.variables.now
+        → IfErr result (Tells (here BranchesBreak context.now branches.now)) }
 {
     let mut made = Items::new(alloc);
     for branch in branches {
@@ -259,14 +227,14 @@ pub fn resolve_body(
     declared: &[Variable],
     statements: &[tree::Statement],
 ) -> Result<Body, ModuleFault>
-    ensures body { IfOk result (IsBody scope.now declared.now statements.now) }
-    ensures told { IsSoundScope scope.now
-        → IfErr result (Tells (BodyBreaks scope.now line declared.now statements.now)) }
-    ensures refused { IsSoundScope scope.now → IfErr result
-        (IsRefusedBy ((body : Body) × IsBody scope.now declared.now statements.now body)) }
+    ensures body { IfOk result (IsBody (visible_in scope.now) declared.now statements.now) }
+    ensures told { IsSoundScope (visible_in scope.now) → IfErr result
+        (Tells (BodyBreaks (visible_in scope.now) line declared.now statements.now)) }
+    ensures refused { IsSoundScope (visible_in scope.now) → IfErr result (IsRefusedBy
+        ((body : Body) × IsBody (visible_in scope.now) declared.now statements.now body)) }
     ensures closed { IfOk result (λ body. needed_around_all body.statements ≡ 0) }
-    ensures playable { let ports = length scope.now.component_type.now.ports.entries in
-        IfOk result (IsPlayable scope.now.types.now ports (reference_count scope.now)) }
+    ensures playable { let seen = visible_in scope.now in
+        IfOk result (IsPlayable seen.types (length seen.ports.names) (reference_count seen)) }
 {
     if !are_no_ports(scope) {
         return Err(refused(ModuleRule::Duplicate, line));

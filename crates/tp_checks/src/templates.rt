@@ -2,15 +2,12 @@
 #![tactic(auto, using(crate::proofs::DefinitionLines::templates))]
 
 ghost use Rattle.std.specs.Prelude.{◌≡◌, ◌≢◌, IfErr, IfOk, OnErr, length, map};
-ghost use Rattle.tp_checks.specs.Named.{texts};
-ghost use Rattle.tp_checks.specs.Refused.{TellsAt};
-ghost use Rattle.tp_checks.specs.Tables.{AreDistinct};
+ghost use Rattle.tp_checks.specs.{Refused.TellsAt, Tables.AreDistinct, Placing.field_names};
 ghost use Rattle.tp_checks.specs.Messages.{AreElementTemplates, AreFieldTemplates, AreMembers, AreNamedTemplates};
 ghost use Rattle.tp_checks.specs.Messages.{IsElementTemplate, IsTemplate, part_of};
 ghost use Rattle.tp_checks.specs.BrokenTemplates.{ElementTemplatesBreak, EntryTemplatesBreak, FieldTemplatesBreak};
 ghost use Rattle.tp_checks.specs.BrokenTemplates.{ListBreaks, MembersBreak, RangeBreaks, RecordBreaks, TemplateBreaks};
-ghost use Rattle.tp_checks.specs.Placing.{field_names};
-ghost use Rattle.tp_checks.specs.Scoping.{IsSoundScope};
+ghost use Rattle.tp_checks.specs.Scoping.{IsSoundHere, breaks_here, stands_here};
 
 use crate::context::Context;
 use crate::fault::ModuleFault;
@@ -48,12 +45,9 @@ fn parts(alloc: Global, text: &[u8]) -> Result<Items<PatternPart>, ModuleFault>
 }
 
 fn resolve_number(context: &Context, ty: Ty, number: &i64) -> Result<RecvTemplate, ModuleFault>
-    ensures stands { IfOk result
-        (IsTemplate context.now.scope.now.types.now (texts context.now.turns.now)
-        ty (Template.Int number.now)) }
-    ensures told { IfErr result (TellsAt context.now.line (TemplateBreaks
-        context.now.scope.now.types.now context.now.variables.now (texts context.now.turns.now)
-        ty (Template.Int number.now))) }
+    ensures stands { IfOk result (stands_here IsTemplate context.now ty (Template.Int number.now)) }
+    ensures told { IfErr result (TellsAt context.now.line
+        (breaks_here TemplateBreaks context.now ty (Template.Int number.now))) }
 {
     context.check_type(ty, Ty::Integer)?;
     // Read, so that it is known to have 64 bits.
@@ -68,11 +62,9 @@ fn resolve_pattern(
     text: &[u8],
 ) -> Result<RecvTemplate, ModuleFault>
     ensures stands { IfOk result
-        (IsTemplate context.now.scope.now.types.now (texts context.now.turns.now)
-        ty (Template.Pattern text.now)) }
-    ensures told { IfErr result (TellsAt context.now.line (TemplateBreaks
-        context.now.scope.now.types.now context.now.variables.now (texts context.now.turns.now)
-        ty (Template.Pattern text.now))) }
+        (stands_here IsTemplate context.now ty (Template.Pattern text.now)) }
+    ensures told { IfErr result (TellsAt context.now.line
+        (breaks_here TemplateBreaks context.now ty (Template.Pattern text.now))) }
 {
     context.check_type(ty, Ty::Charstring)?;
     let made = parts(alloc, text)?;
@@ -86,8 +78,7 @@ fn resolve_range(
     upper: Option<i64>,
 ) -> Result<RecvTemplate, ModuleFault>
     ensures stands { IfOk result
-        (IsTemplate context.now.scope.now.types.now (texts context.now.turns.now)
-        ty (Template.Range lower upper)) }
+        (stands_here IsTemplate context.now ty (Template.Range lower upper)) }
     ensures told { IfErr result (TellsAt context.now.line (RangeBreaks ty lower upper)) }
 {
     context.check_type(ty, Ty::Integer)?;
@@ -110,11 +101,9 @@ pub fn resolve_template(
     ty: Ty,
     template: &Template,
 ) -> Result<RecvTemplate, ModuleFault>
-    ensures stands { IfOk result
-        (IsTemplate context.now.scope.now.types.now (texts context.now.turns.now) ty template.now) }
-    ensures told { IsSoundScope context.now.scope.now
-        → IfErr result (TellsAt context.now.line (TemplateBreaks context.now.scope.now.types.now
-        context.now.variables.now (texts context.now.turns.now) ty template.now)) }
+    ensures stands { IfOk result (stands_here IsTemplate context.now ty template.now) }
+    ensures told { IsSoundHere context.now → IfErr result
+        (TellsAt context.now.line (breaks_here TemplateBreaks context.now ty template.now)) }
 {
     match template {
         Template::Int(number) => resolve_number(context, ty, number),
@@ -155,11 +144,9 @@ fn resolve_list(
     members: &[Template],
 ) -> Result<RecvTemplate, ModuleFault>
     ensures stands { IfOk result
-        (IsTemplate context.now.scope.now.types.now (texts context.now.turns.now)
-        ty (Template.List members.now)) }
-    ensures told { IsSoundScope context.now.scope.now
-        → IfErr result (TellsAt context.now.line (ListBreaks context.now.scope.now.types.now
-        context.now.variables.now (texts context.now.turns.now) ty members.now)) }
+        (stands_here IsTemplate context.now ty (Template.List members.now)) }
+    ensures told { IsSoundHere context.now → IfErr result
+        (TellsAt context.now.line (breaks_here ListBreaks context.now ty members.now)) }
 {
     match context.scope.types.definition(ty) {
         Some(TypeDef::ListOf(element)) => {
@@ -182,11 +169,9 @@ fn resolve_record(
     entries: &[TemplateField],
 ) -> Result<RecvTemplate, ModuleFault>
     ensures stands { IfOk result
-        (IsTemplate context.now.scope.now.types.now (texts context.now.turns.now)
-        ty (Template.Record entries.now)) }
-    ensures told { IsSoundScope context.now.scope.now
-        → IfErr result (TellsAt context.now.line (RecordBreaks context.now.scope.now.types.now
-        context.now.variables.now (texts context.now.turns.now) ty entries.now)) }
+        (stands_here IsTemplate context.now ty (Template.Record entries.now)) }
+    ensures told { IsSoundHere context.now → IfErr result
+        (TellsAt context.now.line (breaks_here RecordBreaks context.now ty entries.now)) }
 {
     let Some(TypeDef::Record(fields)) = context.scope.types.definition(ty) else {
         return Err(context.wrong_type());
@@ -202,11 +187,9 @@ fn resolve_members(
     ty: Ty,
     members: &[Template],
 ) -> Result<Items<RecvTemplate>, ModuleFault>
-    ensures stand { IfOk result
-        (AreMembers context.now.scope.now.types.now (texts context.now.turns.now) ty members.now) }
-    ensures told { IsSoundScope context.now.scope.now
-        → IfErr result (TellsAt context.now.line (MembersBreak context.now.scope.now.types.now
-        context.now.variables.now (texts context.now.turns.now) ty members.now)) }
+    ensures stand { IfOk result (stands_here AreMembers context.now ty members.now) }
+    ensures told { IsSoundHere context.now → IfErr result
+        (TellsAt context.now.line (breaks_here MembersBreak context.now ty members.now)) }
 {
     let mut made = Items::new(alloc);
     for member in members {
@@ -223,12 +206,9 @@ fn resolve_element_template(
     ty: Ty,
     member: &Template,
 ) -> Result<RecvTemplate, ModuleFault>
-    ensures stands { IfOk result
-        (IsElementTemplate context.now.scope.now.types.now (texts context.now.turns.now)
-        ty member.now) }
-    ensures told { IsSoundScope context.now.scope.now
-        → IfErr result (TellsAt context.now.line (TemplateBreaks context.now.scope.now.types.now
-        context.now.variables.now (texts context.now.turns.now) ty member.now)) }
+    ensures stands { IfOk result (stands_here IsElementTemplate context.now ty member.now) }
+    ensures told { IsSoundHere context.now → IfErr result
+        (TellsAt context.now.line (breaks_here TemplateBreaks context.now ty member.now)) }
     ensures no_star { OnErr result (member.now ≢ Template.AnyOrNone) }
 {
     if let Template::AnyOrNone = member {
@@ -244,13 +224,9 @@ fn resolve_element_templates(
     ty: Ty,
     members: &[Template],
 ) -> Result<Items<RecvTemplate>, ModuleFault>
-    ensures stand { IfOk result
-        (AreElementTemplates context.now.scope.now.types.now (texts context.now.turns.now)
-        ty members.now) }
-    ensures told { IsSoundScope context.now.scope.now
-        → IfErr result (TellsAt context.now.line (ElementTemplatesBreak
-        context.now.scope.now.types.now context.now.variables.now (texts context.now.turns.now)
-        ty members.now)) }
+    ensures stand { IfOk result (stands_here AreElementTemplates context.now ty members.now) }
+    ensures told { IsSoundHere context.now → IfErr result
+        (TellsAt context.now.line (breaks_here ElementTemplatesBreak context.now ty members.now)) }
 {
     let mut made = Items::new(alloc);
     for member in members {
@@ -267,13 +243,9 @@ fn resolve_field_templates(
     fields: &[Field],
     members: &[Template],
 ) -> Result<Items<RecvTemplate>, ModuleFault>
-    ensures stand { IfOk result (AreFieldTemplates
-        context.now.scope.now.types.now (texts context.now.turns.now)
-        fields.now members.now) }
-    ensures told { IsSoundScope context.now.scope.now
-        → IfErr result (TellsAt context.now.line (FieldTemplatesBreak
-        context.now.scope.now.types.now context.now.variables.now (texts context.now.turns.now)
-        fields.now members.now)) }
+    ensures stand { IfOk result (stands_here AreFieldTemplates context.now fields.now members.now) }
+    ensures told { IsSoundHere context.now → IfErr result (TellsAt context.now.line
+        (breaks_here FieldTemplatesBreak context.now fields.now members.now)) }
 {
     if fields.len() != members.len() {
         return Err(context.wrong_type());
@@ -293,13 +265,12 @@ fn resolve_named_templates(
     fields: &[Field],
     entries: &[TemplateField],
 ) -> Result<Items<RecvTemplate>, ModuleFault>
-    ensures named { IfOk result (λ made. AreNamedTemplates
-        context.now.scope.now.types.now (texts context.now.turns.now) entries.now fields.now made) }
+    ensures named { IfOk result
+        (λ made. stands_here AreNamedTemplates context.now entries.now fields.now made) }
     ensures count { IfOk result (λ _. length entries.now ≡ length fields.now) }
-    ensures told { IsSoundScope context.now.scope.now → AreDistinct (field_names fields.now)
-        → IfErr result (TellsAt context.now.line (EntryTemplatesBreak
-        context.now.scope.now.types.now context.now.variables.now (texts context.now.turns.now)
-        fields.now entries.now)) }
+    ensures told { IsSoundHere context.now
+        → AreDistinct (field_names fields.now) → IfErr result (TellsAt context.now.line
+        (breaks_here EntryTemplatesBreak context.now fields.now entries.now)) }
 {
     let places = field_places(alloc, fields, entries, context.line)?;
     let mut made = Vec::new(alloc);

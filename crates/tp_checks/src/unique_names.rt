@@ -2,17 +2,14 @@
 #![tactic(auto, using(crate::proofs::TestCaseFaultsTold::names))]
 
 ghost use Rattle.std.specs.Prelude.{◌≡◌, ◌<◌, ◌∷◌, ◌++◌, ◌⊎◌, [], All, IfErr, IfOk, IfSome, OnOk, Some, is_some};
-ghost use Rattle.std.specs.Prelude.{length, map};
-ghost use Rattle.std.specs.List.{list_any};
-ghost use Rattle.std.specs.Option.{option_to_list};
-ghost use Rattle.tp_checks.specs.Refused.{IsRefusedBy, Tells, TellsAt};
+ghost use Rattle.std.specs.{Prelude.length, Prelude.map, List.list_any, Option.option_to_list};
+ghost use Rattle.tp_checks.specs.{Refused.IsRefusedBy, Refused.Tells, Refused.TellsAt, Cases.cases_of};
 ghost use Rattle.tp_checks.specs.Tables.{AreDistinct, IsNumbered};
 ghost use Rattle.tp_checks.specs.BrokenNames.{DeclaringBreaks, DefinitionNamesBreak, GivenNamesBreak, NameBreaks};
 ghost use Rattle.tp_checks.specs.BrokenNames.{NamesBreak, inner_declared, port_name_list};
 ghost use Rattle.tp_checks.specs.Definitions.{BeginsAmong, of_kind, case_of, name_of, declared, declared_ports};
 ghost use Rattle.tp_checks.specs.Definitions.{inner_names, test_cases};
 ghost use Rattle.tp_checks.specs.Rules.{AreNamed, HasOneTestCase, HasUniqueNames};
-ghost use Rattle.tp_checks.specs.Cases.{cases_of};
 ghost use Rattle.tp_tree.specs.declared.tree.Definition.{Definition};
 
 use crate::fault::{ModuleFault, ModuleRule, refused};
@@ -160,9 +157,8 @@ fn next_case<'m>(
         ≡ cases_of before.entry ++ option_to_list (case_of definition.now.defined)) }
     ensures refused { IfErr result (λ _.
         1 < length (cases_of before.entry ++ option_to_list (case_of definition.now.defined))) }
-    ensures begins { IfOk result (λ after. (after ≡ before.entry) ⊎ IfSome after (λ found.
-        (case_of definition.now.defined ≡ Some found.case.now)
-        × (found.line ≡ definition.now.line))) }
+    ensures begins { IfOk result (λ after. (after ≡ before.entry) ⊎ IfSome after (λ found. (case_of
+        definition.now.defined ≡ Some found.case.now) × (found.line ≡ definition.now.line))) }
     ensures told { IfErr result (λ fault.
         fault ≡ ModuleFault.Refused ModuleRule.Duplicate definition.now.line) }
 {
@@ -185,8 +181,7 @@ fn is_case(definition: &Definition) -> bool
 }
 
 fn has_case(definitions: &[Definition]) -> bool
-    ensures { result ≡ list_any (λ (x : Definition). is_some (case_of x.defined))
-        definitions.now }
+    ensures { result ≡ list_any (λ (x : Definition). is_some (case_of x.defined)) definitions.now }
 {
     definitions.iter().any(is_case)
 }
@@ -199,9 +194,8 @@ fn check_name<'m>(
     ensures names { OnOk result (names.new ≡ names.old ++ name_of definition.now.defined ∷ []) }
     ensures numbered { OnOk result (IsNumbered names.new) }
     ensures inner { OnOk result (IsNumbered (inner_names definition.now.defined)) }
-    ensures refused { IfErr result (IsRefusedBy (
-        IsNumbered (names.old ++ name_of definition.now.defined ∷ [])
-        × IsNumbered (inner_names definition.now.defined))) }
+    ensures refused { IfErr result (IsRefusedBy (IsNumbered (names.old ++ name_of
+        definition.now.defined ∷ []) × IsNumbered (inner_names definition.now.defined))) }
     ensures told { IfErr result (Tells (GivenNamesBreak names.old definition.now)) }
 {
     if let Err(fault) = names.add(defined_name(&definition.defined)) {

@@ -1,13 +1,9 @@
 //! The variables of a body, and the rule for new names.
 ghost use Rattle.std.specs.Prelude.{◌≡◌, ◌≤◌, ◌∷◌, ◌++◌, ◌↔◌, [], ℕ, List, Contains, IfErr, IfNone, IfOk, IfSome};
-ghost use Rattle.std.specs.Prelude.{IsTrue, OnOk, Some, length, slice_get};
-ghost use Rattle.std.specs.Bool.{OnFalse};
-ghost use Rattle.tp_checks.specs.Named.{IsAbsent, texts};
-ghost use Rattle.tp_checks.specs.Refused.{Tells, TellsAt};
-ghost use Rattle.tp_checks.specs.Tables.{IsNumbered};
-ghost use Rattle.tp_checks.specs.Scoping.{IsNew, declared_port_names};
+ghost use Rattle.std.specs.{Prelude.IsTrue, Prelude.OnOk, Prelude.Some, Prelude.length, Bool.OnFalse};
+ghost use Rattle.tp_checks.specs.{Refused.Tells, Refused.TellsAt, Tables.IsNumbered, BrokenBodies.VariablesBreak};
+ghost use Rattle.tp_checks.specs.Scoping.{AreNoPorts, IsNew, here, ports_in, visible_in};
 ghost use Rattle.tp_checks.specs.Bodies.{AreVariables, IsVariableType};
-ghost use Rattle.tp_checks.specs.BrokenBodies.{VariablesBreak};
 
 use crate::context::Context;
 use crate::fault::{ModuleFault, ModuleRule};
@@ -24,9 +20,7 @@ use tp_value::items::Items;
 /// No port, parameter, variable or loop variable has a new name, and in the test case no component
 /// variable.
 pub fn is_new(context: &Context, name: &str) -> bool
-    ensures { IsTrue result ↔
-        IsNew context.now.scope.now context.now.variables.now (texts context.now.turns.now)
-        name.now }
+    ensures { IsTrue result ↔ here IsNew context.now name.now }
 {
     let scope = context.scope;
     let None = place_of_port(scope.component_type, name) else {
@@ -52,9 +46,9 @@ pub fn is_new(context: &Context, name: &str) -> bool
 
 #[tactic(auto, using(crate::proofs::DefinitionLines::variables))]
 fn find_held(scope: &Scope, name: &TypeName) -> Option<VariableType>
-    ensures there { IfSome result (IsVariableType scope.now name.now) }
+    ensures there { IfSome result (IsVariableType (visible_in scope.now) name.now) }
     ensures absent { IfNone result ((held : VariableType)
-        → IsVariableType scope.now name.now held → ⊥) }
+        → IsVariableType (visible_in scope.now) name.now held → ⊥) }
 {
     if let Some(ty) = find_type(scope.types, name) {
         return Some(VariableType::Message(ty));
@@ -77,9 +71,8 @@ fn add_variable<'m>(
     ensures names { OnOk result (variables.new.names ≡ variables.old.names ++ name.now ∷ []) }
     ensures types { OnOk result (variables.new.types ≡ variables.old.types ++ held ∷ []) }
     ensures numbered { IsNumbered variables.new.names }
-    ensures told { (Contains variables.old.names name.now → ⊥)
-        → IfErr result (TellsAt line (λ rule. (rule ≡ ModuleRule.Limit)
-        × (4294967295 ≤ length variables.old.names))) }
+    ensures told { (Contains variables.old.names name.now → ⊥) → IfErr result (TellsAt line
+        (λ rule. (rule ≡ ModuleRule.Limit) × (4294967295 ≤ length variables.old.names))) }
 {
     if let Err(fault) = variables.names.add(name) {
         return Err(fault.at(line));
@@ -96,8 +89,8 @@ pub fn resolve_variables<'m>(
     scope: &Scope,
     declared: &'m [Variable],
 ) -> Result<Variables<'m>, ModuleFault>
-    ensures declared { IfOk result (AreVariables scope.now declared.now) }
-    ensures told { IfErr result (Tells (VariablesBreak scope.now declared.now)) }
+    ensures declared { IfOk result (AreVariables (visible_in scope.now) declared.now) }
+    ensures told { IfErr result (Tells (VariablesBreak (visible_in scope.now) declared.now)) }
 {
     let mut variables = Variables {
         names: NameSet::new(alloc),
@@ -124,12 +117,9 @@ pub fn resolve_variables<'m>(
 }
 
 pub fn are_no_ports(scope: &Scope) -> bool
-    ensures apart { IsTrue result ↔ ((k : ℕ) (name : List ℕ)
-        → slice_get (declared_port_names scope.now.component_type.now) k ≡ Some name
-        → IsAbsent scope.now.parameters.now name) }
-    ensures twice { OnFalse result ((name : List ℕ)
-        × Contains (declared_port_names scope.now.component_type.now) name
-        × Contains scope.now.parameters.now name) }
+    ensures apart { IsTrue result ↔ AreNoPorts (visible_in scope.now) }
+    ensures twice { OnFalse result ((name : List ℕ) × Contains (ports_in
+        scope.now.component_type.now).names name × Contains scope.now.parameters.now name) }
 {
     for place in 0..scope.component_type.ports.len() {
         // The place is below the length, so there is one.

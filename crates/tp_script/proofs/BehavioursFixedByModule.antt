@@ -1,33 +1,21 @@
 -- What a component of a module's test case does is fixed by the module.
 use Rattle.std.proofs.Common.{◌≡◌, ◌⊎◌, inl, inr, ℕ, ◌+◌, ◌<◌, List, [], ◌∷◌, ◌++◌, Option, None, Some, Contains, length, map, slice_get, option_map, refl, sym, ap, ◌∙◌, subst, arith}
-use Rattle.std.proofs.lemmas.Grind.{same_number_lists}
-use Rattle.std.proofs.lemmas.List.{length-map}
-use Rattle.std.proofs.lemmas.Slice.Zip.{AllZip-long}
+use Rattle.std.proofs.{lemmas.Grind.same_number_lists, lemmas.List.length-map, lemmas.Slice.Zip.AllZip-long}
 use Rattle.std.proofs.lemmas.Option.{get_or_from_slice_get, same_Some, slice_get-map, slice_get_within}
-use Rattle.tp_tree.specs.declared.tree.Module.{Module}
-use Rattle.tp_tree.specs.declared.tree.TestCase.{TestCase}
-use Rattle.tp_tree.specs.declared.tree.Function.{Function}
-use Rattle.tp_tree.specs.declared.tree.ComponentName.{ComponentName}
+use Rattle.tp_tree.specs.declared.tree.{Module.Module, TestCase.TestCase, Function.Function, ComponentName.ComponentName}
 use Rattle.tp_tree.specs.declared.tree.ComponentStart.{ComponentStart}
 use Rattle.tp_config.specs.declared.port_type.CompId.{CompId}
-use Rattle.tp_checks.specs.Tables.{AreDistinct}
-use Rattle.tp_checks.specs.declared.starts.StartedComponent.{StartedComponent}
-use Rattle.tp_checks.specs.declared.starts.Starts.{Starts}
-use Rattle.tp_checks.specs.Definitions.{definition_names, functions}
-use Rattle.tp_checks.specs.Rules.{sut}
-use Rattle.tp_checks.specs.Components.{creations, variable_name, variables}
-use Rattle.tp_checks.specs.Configuring.{interface_number}
+use Rattle.tp_checks.specs.{Tables.AreDistinct, Definitions.definition_names, Definitions.functions, Rules.sut, Scoping.OwnNames}
+use Rattle.tp_checks.specs.{Components.creations, Components.variable_name, Components.variables, Configuring.interface_number}
 use Rattle.tp_checks.specs.Starting.{AreStarts, IsArgument, IsStartPlace, IsStartOf, started_names, type_names_of}
+use Rattle.tp_checks.specs.declared.starts.{StartedComponent.StartedComponent, Starts.Starts}
 use Rattle.tp_checks.proofs.ListPrefixGrowth.{contains_at, zip_at}
+use Rattle.tp_checks.proofs.UniqueZipsAndPlaces.{place_in, zip_same}
 use Rattle.tp_play.specs.declared.body.Body.{Body}
 use Rattle.tp_play.specs.Behaviours.{Behaviour}
 use Rattle.tp_script.specs.Behaviours as d
-use Rattle.tp_script.specs.Behaviours.{AreReferences, Does, Numbers}
-use Rattle.tp_script.specs.Scopes.{Known, IsFunctionBody, IsMainBody}
-use Rattle.tp_script.proofs.BodiesFixedByText.{scoped_body_fixed}
-use Rattle.tp_checks.specs.Scoping.{OwnNames}
-use Rattle.tp_checks.proofs.UniqueZipsAndPlaces.{place_in, zip_same}
-use Rattle.tp_script.proofs.TypesFixedByModule.{one_function_named}
+use Rattle.tp_script.specs.{Behaviours.AreReferences, Behaviours.Does, Scopes.Known, Scopes.IsFunctionBody, Scopes.IsMainBody}
+use Rattle.tp_script.proofs.{BodiesFixedByText.scoped_body_fixed, TypesFixedByModule.one_function_named}
 
 abbrev numbers_of : List CompId → List ℕ
 numbers_of xs = map (λ (c : CompId). c.0) xs

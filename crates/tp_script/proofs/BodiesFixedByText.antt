@@ -1,23 +1,17 @@
 -- A body of the text stands for one body, in whichever scope of what it may speak of.
 use Rattle.std.proofs.Common.{◌≡◌, ℕ, List, [], ap, sym, subst, ◌∙◌}
-use Rattle.tp_tree.specs.declared.tree.Variable.{Variable}
-use Rattle.tp_tree.specs.declared.tree.Statement.{Statement as StatementText}
-use Rattle.tp_play.specs.declared.body.ResolvedStatement.{ResolvedStatement}
-use Rattle.tp_play.specs.declared.body.VariableType.{VariableType}
-use Rattle.tp_play.specs.declared.body.Body.{Body}
+use Rattle.tp_tree.specs.declared.tree.{Variable.Variable, Statement.Statement as StatementText}
+use Rattle.tp_play.specs.declared.body.{ResolvedStatement.ResolvedStatement, VariableType.VariableType, Body.Body}
 use Rattle.tp_checks.specs.declared.scope.BehaviourKind.{BehaviourKind}
-use Rattle.tp_checks.specs.declared.scope.Scope.{Scope}
-use Rattle.tp_checks.specs.Scoping.{OwnNames}
-use Rattle.tp_checks.specs.Bodies.{IsBlock, IsBody}
+use Rattle.tp_checks.specs.{Scoping.OwnNames, Scoping.Visible, Bodies.IsBlock, Bodies.IsBody}
 use Rattle.tp_checks.proofs.BodyVariableDeclarations.{variables_fixed}
 use Rattle.tp_script.specs.Scopes.{Known, IsBodyInScope}
-use Rattle.tp_script.proofs.BodiesInAlikeScopes.{in_each_scope}
-use Rattle.tp_script.proofs.StatementsFixedByText.{block_fixed}
+use Rattle.tp_script.proofs.{ScopesFixedByKnown.scope_fixed, StatementsFixedByText.block_fixed}
 
 abbrev body_of : List VariableType → List ResolvedStatement → Body
 body_of variables statements = record { variables = variables; statements = statements }
 
-module _ (scope : Scope) (own : OwnNames scope.types.now) where
+module _ (scope : Visible) (own : OwnNames scope.types) where
   body_fixed : (xs : List Variable) (statements : List StatementText) (body other : Body) → IsBody scope xs statements body → IsBody scope xs statements other → body ≡ other
   body_fixed xs statements body other h k =
       let one = variables_fixed scope xs h.variables k.variables h.declared k.declared in
@@ -30,5 +24,5 @@ pub scoped_body_fixed : (known : Known) (plays : BehaviourKind) (runs_on : List 
     → OwnNames known.types → (body other : Body) → IsBodyInScope known plays runs_on parameters xs statements body → IsBodyInScope known plays runs_on parameters xs statements other
     → body ≡ other
 scoped_body_fixed known plays runs_on parameters xs statements own body other h k =
-    body_fixed k.scope (subst (λ t. OwnNames t) (sym k.is_scope.types) own) xs statements body other
-    (in_each_scope known plays runs_on parameters h.scope k.scope h.is_scope k.is_scope xs statements body h.is_body) k.is_body
+    body_fixed k.scope (subst (λ (v : Visible). OwnNames v.types) (sym k.is_scope.scope_is) own) xs statements body other
+    (subst (λ s. IsBody s xs statements body) (scope_fixed known plays runs_on parameters h.scope k.scope h.is_scope k.is_scope) h.is_body) k.is_body

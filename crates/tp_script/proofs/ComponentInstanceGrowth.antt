@@ -1,13 +1,11 @@
 -- Numbers of components, and instances that are added one by one.
 use Rattle.std.proofs.Common.{◌≡◌, ◌⊎◌, inl, inr, ℕ, ◌+◌, ◌<◌, ◌≤◌, List, [], ◌∷◌, ◌++◌, Option, Some, length, slice_get, append_assoc, sym, ap, ◌∙◌, subst, arith}
-use Rattle.std.proofs.lemmas.List.{length_push, get_or_push, get_or_append_left}
+use Rattle.std.proofs.{lemmas.List.length_push, lemmas.List.get_or_push, lemmas.List.get_or_append_left, lemmas.Bool.cases_lt}
 use Rattle.std.proofs.lemmas.Option.{slice_get-get_or, get_or_from_slice_get}
-use Rattle.std.proofs.lemmas.Bool.{cases_lt}
 use Rattle.tp_checks.proofs.PlacedEntriesGrowth.{push_cases}
 use Rattle.tp_checks.specs.declared.prepared.Prepared.{Prepared}
 use Rattle.tp_play.specs.declared.instance.Instance.{Instance}
-use Rattle.tp_script.specs.Behaviours.{Numbers}
-use Rattle.tp_script.specs.Instances.{AreInstances, IsInstance}
+use Rattle.tp_script.specs.{Behaviours.Numbers, Instances.AreInstances, Instances.IsInstance}
 
 pub numbers_more : (count : ℕ) (before after next : List ℕ) → Numbers count before after → next ≡ after ++ (count + 1) ∷ [] → Numbers (count + 1) before next
 numbers_more count before after next h e =

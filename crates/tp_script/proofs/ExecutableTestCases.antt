@@ -1,71 +1,31 @@
 -- The test case of a module that obeys the rules can be executed.
 use Rattle.std.proofs.Common.{◌≡◌, ◌⊎◌, inl, inr, ℕ, zero, suc, ◌+◌, ◌<◌, ◌≤◌, true, true≢false, List, [], ◌∷◌, ◌++◌, Option, None, Some, All, Contains, length, map, get_or, slice_get, option_map, codes, refl, sym, ap, ◌∙◌, subst, arith, add-one}
-use Rattle.std.specs.List.{AllZip, cons_option}
-use Rattle.std.specs.Option.{option_map_or, option_to_list}
-use Rattle.std.proofs.Math.ListN.{get_or-eq_default}
-use Rattle.std.proofs.lemmas.Bool.{cases_lt}
-use Rattle.std.proofs.lemmas.List.{length-map, length-append}
-use Rattle.std.proofs.lemmas.List.Elements.{All-nil, All-cons, All-append, All-head, All-tail}
+use Rattle.std.proofs.{Math.ListN.get_or-eq_default, lemmas.Bool.cases_lt, lemmas.List.length-map, lemmas.List.length-append}
+use Rattle.std.proofs.lemmas.List.Elements.{All-nil, All-cons, All-append, All-contains}
 use Rattle.std.proofs.lemmas.Option.{slice_get-get_or, slice_get-map, slice_get_within, get_or_from_slice_get, same_Some}
 use Rattle.std.proofs.lemmas.Slice.Zip.{AllZip-long}
-use Rattle.tp_tree.specs.declared.tree.Module.{Module}
-use Rattle.tp_tree.specs.declared.tree.TestCase.{TestCase}
-use Rattle.tp_tree.specs.declared.tree.Function.{Function}
-use Rattle.tp_tree.specs.declared.tree.Definition.{Definition}
-use Rattle.tp_tree.specs.declared.tree.Defined.{Defined}
-use Rattle.tp_tree.specs.declared.tree.Defined.TheVariants as definition
-use Rattle.tp_tree.specs.declared.tree.ComponentStart.{ComponentStart}
-use Rattle.tp_tree.specs.declared.tree.Creation.{Creation}
-use Rattle.tp_tree.specs.declared.tree.Variable.{Variable}
-use Rattle.tp_tree.specs.declared.tree.Statement.{Statement}
+use Rattle.std.specs.{List.AllZip, Option.option_map_or, Option.option_to_list}
+use Rattle.tp_tree.specs.declared.tree.{Module.Module, TestCase.TestCase, Function.Function, Definition.Definition, Defined.Defined}
+use Rattle.tp_tree.specs.declared.tree.{ComponentStart.ComponentStart, Creation.Creation, Variable.Variable, Statement.Statement}
 use Rattle.tp_tree.specs.declared.tree.Parameter.{Parameter}
-use Rattle.tp_tree.specs.declared.tree.SetupStatement.{SetupStatement}
-use Rattle.tp_tree.specs.declared.tree.SetupAction.{SetupAction}
-use Rattle.tp_tree.specs.declared.tree.SetupAction.TheVariants as a
+use Rattle.tp_tree.specs.declared.tree.Defined.TheVariants as definition
 use Rattle.tp_config.specs.declared.port_type.CompId.{CompId}
 use Rattle.tp_config.specs.declared.port_type.Role.TheVariants as role
 use Rattle.tp_config.specs.Setup.{Setup, Member, PortDecl, is_system_member, is_system_role, ports_at}
-use Rattle.tp_config.specs.Shape.{ports_of}
-use Rattle.tp_checks.specs.Tables.{AreDistinct, place_of_name}
-use Rattle.tp_checks.proofs.NameSetLookups.{place_there}
+use Rattle.tp_checks.specs.{Tables.AreDistinct, Tables.place_of_name, Rules.IsSound, Rules.sut, Configuring.interface_number, Bodies.IsBody}
 use Rattle.tp_checks.specs.Definitions.{of_kind, component_type_names, declared, function_of, functions, port_type_names, type_names}
-use Rattle.tp_checks.specs.Rules.{IsSound, sut}
 use Rattle.tp_checks.specs.Components.{Declared, IsMember, component_list, creations, created, interface, main_component, variable_name, variables}
-use Rattle.tp_checks.specs.Configuring.{IsStep, Makes, nothing, one_more, interface_number}
 use Rattle.tp_checks.specs.Starting.{HasParameterType, IsStartPlace, IsStartOf, started_names, type_names_of}
-use Rattle.tp_checks.specs.Sorted.{HasSoundDefinitions}
-use Rattle.tp_checks.specs.Prepared.{IsWellDeclared}
-use Rattle.tp_checks.proofs.ListPrefixGrowth.{zip_at, zip_beside}
+use Rattle.tp_checks.specs.{Sorted.HasSoundDefinitions, Prepared.IsWellDeclared}
+use Rattle.tp_checks.proofs.{NameSetLookups.place_there, DistinctNamesInParts.all_among, UniqueConfigurations.makes_leaves}
+use Rattle.tp_checks.proofs.{ListPrefixGrowth.zip_at, ListPrefixGrowth.zip_beside, BodiesCanBePlayed.body_played, UniqueZipsAndPlaces.once}
 use Rattle.tp_play.specs.declared.body.Body.{Body}
 use Rattle.tp_checks.specs.declared.scope.BehaviourKind.{BehaviourKind}
-use Rattle.tp_checks.specs.Scoping.{reference_count}
-use Rattle.tp_play.specs.Playable.{IsPlayable}
-use Rattle.tp_checks.proofs.BodiesCanBePlayed.{body_played}
-use Rattle.tp_script.specs.Scopes.{Known, IsBodyInScope}
-use Rattle.tp_script.specs.Behaviours as d
-use Rattle.tp_play.specs.Behaviours.{Behaviour}
-use Rattle.tp_script.specs.Behaviours.{Does, AreReferences}
-use Rattle.tp_play.specs.TestCases.{Made}
+use Rattle.tp_play.specs.{Playable.IsPlayable, Behaviours.Behaviour, TestCases.Made, Ready.CanDo, Ready.IsReady, Ready.port_count}
+use Rattle.tp_script.specs.{Scopes.Known, Scopes.IsBodyInScope, Scopes.visible_to, Behaviours.Does, Behaviours.AreReferences}
 use Rattle.tp_script.specs.TestCases.{IsTestCaseOf, known_of}
-use Rattle.tp_play.specs.Ready.{CanDo, IsReady, port_count}
+use Rattle.tp_script.specs.Behaviours as d
 use Rattle.tp_script.proofs.TestCaseFromPasses.{mapped_from}
-use Rattle.tp_checks.proofs.UniqueZipsAndPlaces.{once}
-use Rattle.tp_config.proofs.PortLookupByFields.{length_ports}
-
--- a setup statement leaves the component types and the components
-step_leaves : (s t : Setup) (names : List (List ℕ)) (system : Option ℕ) (x : SetupAction) → IsStep s names system x t
-    → (t.types ≡ s.types) × (t.components ≡ s.components)
-step_leaves s t names system (a.Create c) e = (ap (λ (u : Setup). u.types) e, ap (λ (u : Setup). u.components) e)
-step_leaves s t names system (a.Connect p q) e = (ap (λ (u : Setup). u.types) e.connected, ap (λ (u : Setup). u.components) e.connected)
-step_leaves s t names system (a.Map p q) e = (ap (λ (u : Setup). u.types) e.mapped, ap (λ (u : Setup). u.components) e.mapped)
-
-makes_leaves : (system : Option ℕ) (start : Setup) (xs : List SetupStatement) (s : Setup) → Makes system start xs s
-    → (s.types ≡ start.types) × (s.components ≡ start.components)
-makes_leaves system start xs s nothing = (refl, refl)
-makes_leaves system start xs s (one_more ys r x t before step) =
-    let earlier = makes_leaves system start ys r before in
-    let here = step_leaves r t (variables ys) system x.action step in
-    (here.0 ∙ earlier.0, here.1 ∙ earlier.1)
 
 -- the ports that a component has by its type
 ports_by_kind : (config : Setup) (k : ℕ) (m : Member) (ports : List PortDecl) → slice_get config.components k ≡ Some m
@@ -91,29 +51,16 @@ at_place {A} xs k x e = by (cases_lt k (length xs)) where
 
 -- a function among the definitions
 pub function_defined : (x : Defined) (f : Function) → function_of x ≡ Some f → x ≡ definition.Function f
-function_defined (definition.Record r) f e = absurd (cc)
-function_defined (definition.List l) f e = absurd (cc)
-function_defined (definition.Port p) f e = absurd (cc)
-function_defined (definition.Component c) f e = absurd (cc)
 function_defined (definition.Function g) f e = ap definition.Function (same_Some g f e)
-function_defined (definition.TestCase c) f e = absurd (cc)
+function_defined _ f e = absurd (cc)
 
 -- the function that stands among the definitions obeys their rules
 function_sound : (P : Defined → Type 0) (xs : List Definition) (f : Function) → All (λ (x : Definition). P x.defined) xs → Contains (of_kind function_of xs) f
     → P (definition.Function f)
-function_sound P [] f each (k, below, is) = absurd (omega (arith, below))
-function_sound P (x ∷ xs) f each there =
-    by (function_of x.defined) refl there (λ h. function_sound P xs f (All-tail (λ (x : Definition). P x.defined) x xs each) h) where
-      found : (g : Function) → function_of x.defined ≡ Some g → (k : ℕ) → k < length (g ∷ of_kind function_of xs) → get_or (g ∷ of_kind function_of xs) k f ≡ f
-          → (Contains (of_kind function_of xs) f → P (definition.Function f)) → P (definition.Function f)
-      found g is zero below e later =
-          subst P (function_defined x.defined g is ∙ ap definition.Function e) (All-head (λ (x : Definition). P x.defined) x xs each)
-      found g is (suc k) below e later = later (k, omega (arith, below), e)
-
-      by : (o : Option Function) → function_of x.defined ≡ o → Contains (cons_option o (of_kind function_of xs)) f
-          → (Contains (of_kind function_of xs) f → P (definition.Function f)) → P (definition.Function f)
-      by None is h later = later h
-      by (Some g) is (k, below, e) later = found g is k below e later
+function_sound P xs f each =
+    All-contains (λ g. P (definition.Function g)) (of_kind function_of xs) f
+    (all_among function_of (λ g. P (definition.Function g)) (λ (x : Definition). P x.defined)
+    (λ x g e h. subst P (function_defined x.defined g e) h) xs each)
 
 -- what stands at a place of two lists, one behind the other
 left_at : {A : Type 0} (xs ys : List A) (k : ℕ) (x : A) → slice_get xs k ≡ Some x → slice_get (xs ++ ys) k ≡ Some x
@@ -178,10 +125,10 @@ module _ (m : Module) (made : Made) (rules : IsWellDeclared m) (of : IsTestCaseO
       → slice_get (component_list case) k ≡ Some x → x.type_name ≡ runs_on → IsBodyInScope known plays runs_on parameters vs statements body
       → length references ≡ length parameters + count + 2 → IsPlayable made.types (port_count config k) (length references) body
   can_play k x plays runs_on parameters vs statements body references here same s long =
-      subst (λ t. IsPlayable t (port_count config k) (length references) body) s.is_scope.types
-      (subst (λ n. IsPlayable s.scope.types.now n (length references) body) ports_are
-      (subst (λ n. IsPlayable s.scope.types.now (length s.scope.component_type.now.ports.entries) n body) references_are
-      (body_played s.scope vs statements body s.is_body)))
+      subst (λ n. IsPlayable made.types n (length references) body) ports_are
+      (subst (λ n. IsPlayable made.types (length (map (λ (d : PortDecl). d.name) s.is_scope.ports)) n body) references_are
+      (body_played (visible_to known plays s.is_scope.ports parameters) vs statements body
+      (subst (λ v. IsBody v vs statements body) s.is_scope.scope_is s.is_body)))
     where
       member : (y : Member) × (slice_get config.components k ≡ Some y) × IsMember (component_type_names m) x y
       member = zip_beside (IsMember (component_type_names m)) (component_list case) config.components k x members here
@@ -189,13 +136,13 @@ module _ (m : Module) (made : Made) (rules : IsWellDeclared m) (of : IsTestCaseO
       same_kind : member.0.kind ≡ s.is_scope.kind
       same_kind = same_Some member.0.kind s.is_scope.kind (sym member.2.kind ∙ ap (place_of_name (component_type_names m)) same ∙ s.is_scope.kind_known)
 
-      ports_are : length s.scope.component_type.now.ports.entries ≡ port_count config k
+      ports_are : length (map (λ (d : PortDecl). d.name) s.is_scope.ports) ≡ port_count config k
       ports_are =
-          sym (ap length (ports_by_kind config k member.0 (ports_of s.scope.component_type.now) member.1 (ap (slice_get config.types) same_kind ∙ s.is_scope.ports))
-          ∙ length_ports s.scope.component_type.now)
+          length-map s.is_scope.ports (λ (d : PortDecl). d.name)
+          ∙ sym (ap length (ports_by_kind config k member.0 s.is_scope.ports member.1 (ap (slice_get config.types) same_kind ∙ s.is_scope.ports_known)))
 
-      references_are : reference_count s.scope ≡ length references
-      references_are = omega (arith, ap length s.is_scope.parameters, ap length s.is_scope.components, variable_count, long)
+      references_are : length parameters + length known.components + 2 ≡ length references
+      references_are = omega (arith, variable_count, long)
 
   reference_length : (itself : ℕ) (arguments references : List ℕ) → AreReferences itself arguments (length known.components) references
       → length references ≡ length arguments + count + 2
@@ -217,8 +164,6 @@ module _ (m : Module) (made : Made) (rules : IsWellDeclared m) (of : IsTestCaseO
   -- an argument has the type of its parameter, and so is there
   arguments_known : (ps : List Parameter) (cs : List CompId) → AllZip (HasParameterType (type_names_of case)) ps cs → All IsKnown (map (λ c. c.0) cs)
   arguments_known [] [] h = All-nil IsKnown
-  arguments_known [] (c ∷ cs) h = absurd h
-  arguments_known (p ∷ ps) [] h = absurd h
   arguments_known (p ∷ ps) (c ∷ cs) h =
       All-cons IsKnown c.0 (map (λ c. c.0) cs)
       (omega (
@@ -228,6 +173,7 @@ module _ (m : Module) (made : Made) (rules : IsWellDeclared m) (of : IsTestCaseO
         length-map (creations case.setups) (λ (c : Creation). c.type_name),
       ))
       (arguments_known ps cs h.1)
+  arguments_known _ _ h = absurd h
 
   -- a component that is made, by the place of its variable
   made_at : (k : ℕ) (c : Creation) → slice_get (creations case.setups) k ≡ Some c → slice_get (component_list case) (k + 1) ≡ Some (created c)

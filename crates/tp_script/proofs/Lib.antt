@@ -5,9 +5,9 @@ pub mod TestCaseFromPasses
 pub mod ExecutableTestCases
 pub mod ParseAndCheckFaults
 pub mod TypesFixedByModule
-pub mod BodiesInAlikeScopes
 pub mod SoundBodyScopes
-pub mod RefusedBodiesInScopes
+pub mod BrokenBodyExclusions
+pub mod ScopesFixedByKnown
 pub mod ModuleFaultsTold
 pub mod ValuesFixedByText
 pub mod TemplatesFixedByText

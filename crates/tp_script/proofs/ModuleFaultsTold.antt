@@ -1,52 +1,32 @@
 -- What is told of a part is told of the module.
 use Rattle.std.proofs.Common.{◌≡◌, ◌<◌, ◌≤◌, ◌⊎◌, inl, inr, ℕ, ◌+◌, List, Option, Some, Result, IfErr, length, map, sum, take, drop, get_or, sym, ap, subst, arith}
+use Rattle.std.proofs.{lemmas.Bool.cases_lt, lemmas.List.length-map, lemmas.Result.IfErr-weaker, lemmas.Slice.Zip.AllZip-long}
 use Rattle.std.specs.List.{AllZip}
-use Rattle.std.proofs.lemmas.Bool.{cases_lt}
-use Rattle.std.proofs.lemmas.List.{length-map}
-use Rattle.std.proofs.lemmas.Result.{IfErr-weaker}
-use Rattle.std.proofs.lemmas.Slice.Zip.{AllZip-long}
-use Rattle.tp_tree.specs.declared.tree.ComponentType.{ComponentType}
-use Rattle.tp_tree.specs.declared.tree.Definition.{Definition}
-use Rattle.tp_tree.specs.declared.tree.Function.{Function}
-use Rattle.tp_tree.specs.declared.tree.Module.{Module}
-use Rattle.tp_tree.specs.declared.tree.Statement.{Statement}
-use Rattle.tp_tree.specs.declared.tree.TestCase.{TestCase}
-use Rattle.tp_tree.specs.declared.tree.Variable.{Variable}
+use Rattle.tp_tree.specs.declared.tree.{ComponentType.ComponentType, Definition.Definition, Function.Function, Module.Module}
+use Rattle.tp_tree.specs.declared.tree.{Statement.Statement, TestCase.TestCase, Variable.Variable}
 use Rattle.tp_config.specs.Shape.{ports_of}
-use Rattle.tp_checks.specs.declared.fault.ModuleRule.{ModuleRule}
+use Rattle.tp_checks.specs.declared.fault.{ModuleRule.ModuleRule, ModuleFault.ModuleFault}
 use Rattle.tp_checks.specs.declared.fault.ModuleRule.TheVariants as module_rule
-use Rattle.tp_checks.specs.declared.fault.ModuleFault.{ModuleFault}
-use Rattle.tp_checks.specs.Refused.{Tells, TellsAt}
-use Rattle.tp_checks.specs.declared.prepared.Prepared.{Prepared}
+use Rattle.tp_checks.specs.{Refused.Tells, Refused.TellsAt, Prepared.IsPreparedOf, Prepared.IsWellDeclared, Resolved.IsComponentType}
 use Rattle.tp_checks.specs.Definitions.{of_kind, component_types, function_of, functions, port_types, type_names}
-use Rattle.tp_checks.specs.Prepared.{IsPreparedOf, IsWellDeclared}
-use Rattle.tp_checks.specs.Resolved.{IsComponentType}
-use Rattle.tp_checks.specs.Rules.{AreComponentTypesKnown}
-use Rattle.tp_checks.specs.Sorted.{HasSoundDefinitions}
-use Rattle.tp_checks.proofs.NameFaultsTold.{split_here}
-use Rattle.tp_checks.proofs.PreparationFaultsTold.{case_known}
+use Rattle.tp_checks.specs.{Rules.AreComponentTypesKnown, Sorted.HasSoundDefinitions, BrokenBodies.BodyBreaks}
+use Rattle.tp_checks.specs.Scoping.{IsSoundScope, Visible}
+use Rattle.tp_checks.specs.declared.prepared.Prepared.{Prepared}
+use Rattle.tp_checks.proofs.{NameFaultsTold.split_here, PreparationFaultsTold.case_known}
+use Rattle.tp_checks.proofs.RuleFaultPropagation.{told_from, told_on}
 use Rattle.tp_play.specs.declared.bodies.Bodies.{Bodies}
 use Rattle.tp_play.specs.declared.body.Body.{Body}
 use Rattle.tp_play.specs.declared.instance.Instance.{Instance}
-use Rattle.tp_play.specs.Behaviours.{size_of_behaviour}
-use Rattle.tp_play.specs.Instances.{behaviour_of}
-use Rattle.tp_play.specs.TestCases.{Made}
+use Rattle.tp_play.specs.{Behaviours.size_of_behaviour, Instances.behaviour_of, TestCases.Made}
 use Rattle.tp_checks.specs.declared.scope.BehaviourKind.{BehaviourKind}
-use Rattle.tp_checks.specs.declared.scope.Scope.{Scope}
-use Rattle.tp_checks.specs.BrokenBodies.{BodyBreaks}
-use Rattle.tp_checks.specs.Scoping.{IsSoundScope}
 use Rattle.tp_script.specs.BrokenModules.{BodiesBreak, BreaksIn, FunctionBreaks, FunctionsBreak, IsCaseOf, ModuleBreaks, bodies, size}
-use Rattle.tp_script.specs.Instances.{AreInstances, instance_count, known_in}
+use Rattle.tp_script.specs.{Instances.AreInstances, Instances.instance_count, Instances.known_in, TestCases.HasSoundBodies}
 use Rattle.tp_script.specs.Scopes.{CanAllRun, CanRun, IsFunctionBody, IsMainBody, IsScope, IsSoundKnown, Known}
-use Rattle.tp_script.specs.TestCases.{HasSoundBodies}
 use Rattle.tp_script.proofs.TestCaseFromPasses.{kinds, kinds_are, known_is, test_case_of}
-use Rattle.tp_script.proofs.TypesFixedByModule.{one_case}
-use Rattle.tp_script.proofs.ExecutableTestCases.{function_defined}
-use Rattle.tp_script.proofs.SoundBodyScopes.{sound_scope}
-use Rattle.tp_checks.proofs.RuleFaultPropagation.{told_from, told_on}
+use Rattle.tp_script.proofs.{TypesFixedByModule.one_case, ExecutableTestCases.function_defined, ScopesFixedByKnown.sound_scope}
 
 -- a body breaks a rule in the scope that was made for it
-pub body_told : (known : Known) (plays plays_so : BehaviourKind) (runs_on runs_so : List ℕ) (names named : List (List ℕ)) (begins : ℕ) (s : Scope)
+pub body_told : (known : Known) (plays plays_so : BehaviourKind) (runs_on runs_so : List ℕ) (names named : List (List ℕ)) (begins : ℕ) (s : Visible)
     (xs ys : List Variable) (statements stated : List Statement) (r : Result Body ModuleFault) → plays ≡ plays_so → runs_on ≡ runs_so → names ≡ named
     → xs ≡ ys → statements ≡ stated → IsSoundKnown known → IsScope known plays runs_on names s
     → (IsSoundScope s → IfErr r (Tells (BodyBreaks s begins xs statements))) → IfErr r (Tells (BreaksIn known plays_so runs_so named begins ys stated))

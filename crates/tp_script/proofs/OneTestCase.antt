@@ -1,39 +1,23 @@
 -- A module has one test case, and so has a text; and a right text is accepted.
 use Rattle.std.proofs.Common.{◌≡◌, List, Option, length, map, get_or, refl, sym, ap, ◌∙◌, subst, arith}
-use Rattle.std.proofs.lemmas.List.{same_lists}
-use Rattle.std.proofs.lemmas.Option.{slice_get-get_or}
-use Rattle.tp_syntax.proofs.AcceptedTexts.{read_texts_are_accepted}
-use Rattle.tp_tree.specs.declared.tree.Module.{Module}
-use Rattle.tp_tree.specs.declared.tree.TestCase.{TestCase}
-use Rattle.tp_syntax.proofs.SameModules.{readings_are_unique}
+use Rattle.std.proofs.{lemmas.List.same_lists, lemmas.Option.slice_get-get_or}
+use Rattle.tp_syntax.proofs.{AcceptedTexts.read_texts_are_accepted, SameModules.readings_are_unique}
+use Rattle.tp_tree.specs.declared.tree.{Module.Module, TestCase.TestCase}
 use Rattle.tp_value.specs.declared.types.Types.{Types}
-use Rattle.tp_config.specs.Setup.{Member, PortDecl, Setup}
-use Rattle.tp_config.specs.declared.port_type.PortRef.{PortRef}
-use Rattle.tp_config.specs.Shape.{ports_of}
+use Rattle.tp_config.specs.{Setup.Setup, Shape.ports_of}
 use Rattle.tp_checks.specs.Definitions.{component_type_names, component_types, functions, port_types, type_names}
-use Rattle.tp_checks.specs.Components.{IsMember, component_list}
+use Rattle.tp_checks.specs.{Components.IsMember, Components.component_list, Prepared.IsConfigOf, Rules.HasUniqueNames, Starting.AreStarts}
 use Rattle.tp_checks.specs.Configuring.{HaveOwnPorts, Makes, interface_number}
-use Rattle.tp_checks.specs.Prepared.{IsConfigOf}
-use Rattle.tp_checks.specs.Rules.{HasUniqueNames}
-use Rattle.tp_checks.specs.Starting.{AreStarts}
-use Rattle.tp_checks.proofs.PortsOfComponentTypes.{have_ports}
-use Rattle.tp_checks.proofs.UniqueComponentTypes.{names_made, ports_numbered}
-use Rattle.tp_checks.proofs.UniqueConfigurations.{makes_same}
-use Rattle.tp_play.specs.Behaviours.{Behaviour}
-use Rattle.tp_play.specs.TestCases.{Made}
-use Rattle.tp_script.specs.Accepted.{ScriptsAreAccepted, ScriptsHaveOneTestCase}
-use Rattle.tp_script.specs.Behaviours.{Does}
+use Rattle.tp_checks.proofs.{PortsOfComponentTypes.have_ports, UniqueComponentTypes.names_made, UniqueComponentTypes.ports_numbered}
+use Rattle.tp_checks.proofs.{UniqueConfigurations.makes_same, UniqueZipsAndPlaces.zip_same}
+use Rattle.tp_checks.proofs.RulesOfAddedComponents.{member_one, same_setup}
+use Rattle.tp_play.specs.{Behaviours.Behaviour, TestCases.Made}
+use Rattle.tp_script.specs.{Accepted.ScriptsAreAccepted, Accepted.ScriptsHaveOneTestCase, Behaviours.Does}
 use Rattle.tp_script.specs.TestCases.{IsTestCaseOf, WellFormed, known_of}
 use Rattle.tp_script.specs.declared.fault.ScriptRule.TheVariants as script_rule
 use Rattle.tp_script.specs.declared.fault.TestCaseFault.TheVariants as test_case_fault
-use Rattle.tp_checks.proofs.UniqueZipsAndPlaces.{zip_same}
-use Rattle.tp_script.proofs.BehavioursFixedByModule.{does_fixed}
-use Rattle.tp_script.proofs.SoundBodyScopes.{own_names}
+use Rattle.tp_script.proofs.{BehavioursFixedByModule.does_fixed, SoundBodyScopes.own_names}
 use Rattle.tp_script.proofs.TypesFixedByModule.{kinds_fixed, one_case, types_fixed}
-use Rattle.tp_checks.proofs.RulesOfAddedComponents.{member_one}
-
-abbrev setup : List (List PortDecl) → List Member → List (PortRef × PortRef) → List (PortRef × PortRef) → Setup
-setup types components connected mapped = record { types = types; components = components; connected = connected; mapped = mapped }
 
 abbrev made_of : Setup → Types → List (Option Behaviour) → Made
 made_of config types behaviours = record { config = config; types = types; behaviours = behaviours }
@@ -59,10 +43,8 @@ module _ (m : Module) (unique : HasUniqueNames m) where
 
       same : h.set_up.start ≡ k.set_up.start
       same =
-          ap (λ t. setup t h.set_up.start.components h.set_up.start.connected h.set_up.start.mapped) types
-          ∙ ap (λ c. setup k.set_up.start.types c h.set_up.start.connected h.set_up.start.mapped) components
-          ∙ ap (λ l. setup k.set_up.start.types k.set_up.start.components l h.set_up.start.mapped) (h.set_up.not_connected ∙ sym k.set_up.not_connected)
-          ∙ ap (setup k.set_up.start.types k.set_up.start.components k.set_up.start.connected) (h.set_up.not_mapped ∙ sym k.set_up.not_mapped)
+          same_setup h.set_up.start k.set_up.start types components (h.set_up.not_connected ∙ sym k.set_up.not_connected)
+          (h.set_up.not_mapped ∙ sym k.set_up.not_mapped)
 
       own : HaveOwnPorts k.set_up.start.types
       own =

@@ -1,7 +1,7 @@
 -- The faults of a script that is read and then checked.
 use Rattle.std.proofs.Common.{◌≡◌, ℕ, inl, inr, Result, IfErr, List}
-use Rattle.std.specs.Result.{IsErrAnd}
 use Rattle.std.proofs.lemmas.Result.{err_from_is_err_and}
+use Rattle.std.specs.Result.{IsErrAnd}
 use Rattle.tp_syntax.specs.declared.script_fault.ScriptFault.{ScriptFault}
 use Rattle.tp_syntax.specs.declared.script_fault.ScriptFault.TheVariants as script_fault
 use Rattle.tp_tree.specs.declared.tree.Module.{Module}
@@ -10,10 +10,7 @@ use Rattle.tp_checks.specs.declared.fault.ModuleFault.TheVariants as module_faul
 use Rattle.tp_checks.specs.Refused.{IsRefusedBy, Tells}
 use Rattle.tp_syntax.specs.ReadTexts.{IsReadAs, IsUnread}
 use Rattle.tp_script.specs.declared.fault.TestCaseFault.{TestCaseFault}
-use Rattle.tp_script.specs.BrokenModules.{ModuleBreaks}
-use Rattle.tp_script.specs.Scripts.{IsScriptFaultOf}
-use Rattle.tp_script.specs.TestCases.{WellFormed}
-use Rattle.tp_script.specs.Told.{of_module, of_text}
+use Rattle.tp_script.specs.{BrokenModules.ModuleBreaks, Scripts.IsScriptFaultOf, TestCases.WellFormed, Told.of_module, Told.of_text}
 
 of_reading : (f : ScriptFault) (text : List ℕ) → IsUnread text f → IsScriptFaultOf text (of_text f)
 of_reading (script_fault.Refused rule line) text h = h

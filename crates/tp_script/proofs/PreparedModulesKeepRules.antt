@@ -1,27 +1,18 @@
 -- What a module that obeys the rules has, is had by what was made of it.
-use Rattle.std.proofs.Common.{ℕ, ◌≡◌, ◌<◌, ◌≤◌, List, Option, None, Some, is_some, if◌then◌else◌, All, length, map, sum, get_or, sym, ap, ◌∙◌, subst, arith}
+use Rattle.std.proofs.Common.{◌≡◌, ◌<◌, ◌≤◌, List, Option, All, length, map, sum, get_or, sym, ap, ◌∙◌, subst, arith}
+use Rattle.std.proofs.{lemmas.List.length-map, lemmas.Option.slice_get-get_or, lemmas.Option.slice_get_within, lemmas.Slice.Zip.AllZip-long}
 use Rattle.std.specs.List.{AllZip}
-use Rattle.std.proofs.lemmas.List.{length-map}
-use Rattle.std.proofs.lemmas.Option.{slice_get-get_or, slice_get_within}
-use Rattle.std.proofs.lemmas.Slice.Zip.{AllZip-long}
-use Rattle.tp_tree.specs.declared.tree.Module.{Module}
-use Rattle.tp_tree.specs.declared.tree.TestCase.{TestCase}
-use Rattle.tp_tree.specs.declared.tree.ComponentStart.{ComponentStart}
+use Rattle.tp_tree.specs.declared.tree.{Module.Module, TestCase.TestCase, ComponentStart.ComponentStart}
 use Rattle.tp_value.specs.declared.types.Types.{Types}
 use Rattle.tp_config.specs.Setup.{PortDecl}
-use Rattle.tp_checks.proofs.NameSetLookups.{place_there}
+use Rattle.tp_checks.proofs.{RulesOfAddedComponents.most_small, NameSetLookups.place_there, ListPrefixGrowth.zip_at}
 use Rattle.tp_checks.specs.declared.prepared.Prepared.{Prepared}
-use Rattle.tp_checks.specs.Definitions.{component_type_names, functions}
+use Rattle.tp_checks.specs.{Definitions.component_type_names, Definitions.functions, Prepared.IsPreparedOf, Prepared.IsWellDeclared}
 use Rattle.tp_checks.specs.Components.{creations, variable_name, variables}
-use Rattle.tp_checks.specs.Configuring.{most_variables}
 use Rattle.tp_checks.specs.Starting.{IsStartPlace, IsStartOf, started_names, type_names_of}
-use Rattle.tp_checks.specs.Prepared.{IsPreparedOf, IsWellDeclared}
-use Rattle.tp_checks.proofs.ListPrefixGrowth.{zip_at}
 use Rattle.tp_play.specs.declared.bodies.Bodies.{Bodies}
 use Rattle.tp_play.specs.declared.instance.Instance.{Instance}
-use Rattle.tp_play.specs.Behaviours.{size_of_behaviour}
-use Rattle.tp_play.specs.Instances.{behaviour_of}
-use Rattle.tp_play.specs.TestCases.{Made}
+use Rattle.tp_play.specs.{Behaviours.size_of_behaviour, Instances.behaviour_of, TestCases.Made}
 use Rattle.tp_script.specs.Instances.{AreFew, AreInstances, instance_count, known_in}
 use Rattle.tp_script.specs.Scopes.{HasBodies, IsFunctionBody, IsMainBody, Known}
 use Rattle.tp_script.specs.TestCases.{HasSoundBodies, WellFormed, known_of, size_of_test_case}
@@ -55,12 +46,6 @@ module _ (m : Module) (p : Prepared) (of : IsPreparedOf m p) (rules : IsWellDecl
         function_bodies = subst (λ k. AllZip (IsFunctionBody k) (functions m) h.bodies) (same_known h) h.function_bodies;
       }
 
-  few_at_most : (case : TestCase) → most_variables case ≤ 63
-  few_at_most case = by case.system where
-    by : (o : Option (List ℕ)) → (if is_some o then 62 else 63) ≤ 63
-    by None = omega arith
-    by (Some s) = omega arith
-
   -- there are few component variables, and each is started
   pub are_few : AreFew p
   are_few = record {
@@ -72,7 +57,7 @@ module _ (m : Module) (p : Prepared) (of : IsPreparedOf m p) (rules : IsWellDecl
           length-map (creations p.case.case.now.setups) variable_name,
           ap (λ (c : TestCase). length (creations c.setups)) same,
           rules.variables.sound.few,
-          few_at_most rules.case,
+          most_small rules.case,
         );
     as_many =
         AllZip-long (IsStartPlace (started_names p.case.case.now.starts)) (variables p.case.case.now.setups) p.starts.places.items of.starts.all

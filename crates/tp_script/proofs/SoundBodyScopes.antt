@@ -1,80 +1,46 @@
 -- What the checks of bodies rely on holds of what was made of a module whose names are its own.
 use Rattle.std.proofs.Common.{◌≡◌, ◌≤◌, ℕ, List, [], ◌∷◌, Option, None, Some, All, length, map, slice_get, option_map, get_or, refl, sym, ap, ◌∙◌, subst}
+use Rattle.std.proofs.{lemmas.List.Elements.All-map, lemmas.Option.same_Some}
 use Rattle.std.specs.List.{AllZip}
-use Rattle.std.proofs.lemmas.List.Elements.{All-map}
-use Rattle.std.proofs.lemmas.Option.{same_Some}
-use Rattle.tp_tree.specs.declared.tree.Module.{Module}
-use Rattle.tp_tree.specs.declared.tree.Definition.{Definition}
-use Rattle.tp_tree.specs.declared.tree.Defined.{Defined}
+use Rattle.tp_tree.specs.declared.tree.{Module.Module, Definition.Definition, Defined.Defined, FieldType.FieldType}
 use Rattle.tp_tree.specs.declared.tree.Defined.TheVariants as definition
-use Rattle.tp_tree.specs.declared.tree.FieldType.{FieldType}
-use Rattle.tp_value.specs.declared.types.Ty.{Ty}
+use Rattle.tp_value.specs.declared.types.{Ty.Ty, Field.Field, TypeDef.TypeDef, Types.Types}
 use Rattle.tp_value.specs.declared.types.Ty.TheVariants as ty
-use Rattle.tp_value.specs.declared.types.Field.{Field}
-use Rattle.tp_value.specs.declared.types.TypeDef.{TypeDef}
 use Rattle.tp_value.specs.declared.types.TypeDef.TheVariants as type_def
-use Rattle.tp_value.specs.declared.types.Types.{Types}
 use Rattle.tp_value.specs.Types.{named}
-use Rattle.tp_config.specs.Setup.{PortDecl}
-use Rattle.tp_config.specs.Shape.{ports_of}
-use Rattle.tp_checks.specs.Tables.{AreDistinct, IsNumbered}
-use Rattle.tp_checks.specs.declared.prepared.Prepared.{Prepared}
+use Rattle.tp_config.specs.{Setup.PortDecl, Shape.ports_of}
+use Rattle.tp_checks.specs.{Tables.AreDistinct, Tables.IsNumbered, Prepared.IsPreparedOf, Placing.field_names, Scoping.OwnNames}
 use Rattle.tp_checks.specs.Definitions.{declared, inner_names, type_definitions, type_names, type_of}
 use Rattle.tp_checks.specs.Resolved.{AreTypes, IsField, IsNamedType, IsTypeDef}
-use Rattle.tp_checks.specs.Prepared.{IsPreparedOf}
-use Rattle.tp_checks.proofs.ListPrefixGrowth.{zip_at}
-use Rattle.tp_checks.specs.declared.scope.BehaviourKind.{BehaviourKind}
-use Rattle.tp_checks.specs.declared.scope.Scope.{Scope}
-use Rattle.tp_checks.specs.Placing.{field_names}
-use Rattle.tp_checks.specs.Scoping.{IsSoundScope}
-use Rattle.tp_script.specs.Instances.{known_in}
-use Rattle.tp_checks.specs.Scoping.{OwnNames}
-use Rattle.tp_script.specs.Scopes.{HaveOwnNames, IsScope, IsSoundKnown, Known}
-use Rattle.tp_script.proofs.TestCaseFromPasses.{kinds_are}
-use Rattle.tp_checks.proofs.DistinctNamesInParts.{all_among}
-use Rattle.tp_checks.proofs.StartLookups.{all_got}
+use Rattle.tp_checks.specs.declared.prepared.Prepared.{Prepared}
+use Rattle.tp_checks.proofs.{ListPrefixGrowth.zip_at, DistinctNamesInParts.all_among, StartLookups.all_got}
 use Rattle.tp_checks.proofs.SoundSortedDefinitions.{type_itself}
+use Rattle.tp_script.specs.{Instances.known_in, Scopes.HaveOwnNames, Scopes.IsSoundKnown}
+use Rattle.tp_script.proofs.TestCaseFromPasses.{kinds_are}
 use Rattle.tp_config.proofs.PortLookupByFields.{length_ports}
-
--- a scope is as sound as what it may speak of
-pub sound_scope : (known : Known) (plays : BehaviourKind) (runs_on : List ℕ) (names : List (List ℕ)) (scope : Scope) → IsSoundKnown known
-    → IsScope known plays runs_on names scope → IsSoundScope scope
-sound_scope known plays runs_on names scope sound is = record {
-  few_ports =
-      subst (λ n. n ≤ 64) (length_ports scope.component_type.now)
-      (all_got (λ (ports : List PortDecl). length ports ≤ 64) known.ports is.kind (ports_of scope.component_type.now) sound.few_ports is.ports);
-  own_names = λ u fields e. sound.own_names u fields (ap (λ types. named types u) (sym is.types) ∙ e);
-}
 
 names_of_fields : (types : List (List ℕ)) (xs : List FieldType) (fields : List Field) → AllZip (IsField types) xs fields
     → map (λ (f : FieldType). declared f.name) xs ≡ field_names fields
 names_of_fields types [] [] h = refl
-names_of_fields types [] (f ∷ fs) h = absurd h
-names_of_fields types (x ∷ xs) [] h = absurd h
 names_of_fields types (x ∷ xs) (f ∷ fs) h =
     ap (λ n. n ∷ map (λ (f : FieldType). declared f.name) xs) (sym h.0.0) ∙ ap (λ l. f.name ∷ l) (names_of_fields types xs fs h.1)
+names_of_fields _ _ _ h = absurd h
 
 -- a record type has the names of its definition
 own_fields : (types : List (List ℕ)) (x : Defined) (fields : List Field) → IsTypeDef types x (type_def.Record fields) → AreDistinct (inner_names x)
     → AreDistinct (field_names fields)
 own_fields types (definition.Record r) fields h apart = subst AreDistinct (names_of_fields types r.fields fields h) apart
-own_fields types (definition.List l) fields h apart = absurd h
-own_fields types (definition.Port p) fields h apart = absurd h
-own_fields types (definition.Component c) fields h apart = absurd h
-own_fields types (definition.Function f) fields h apart = absurd h
-own_fields types (definition.TestCase c) fields h apart = absurd h
+own_fields _ _ _ h _ = absurd h
 
 -- the type that a type names stands among the types
 type_at : (types : Types) (u : Ty) (d : TypeDef) → named types u ≡ Some d
     → (k : ℕ) × (t : List ℕ × TypeDef) × (slice_get types k ≡ Some t) × (t.1 ≡ d)
-type_at types ty.Integer d e = absurd (cc)
-type_at types ty.Boolean d e = absurd (cc)
-type_at types ty.Charstring d e = absurd (cc)
 type_at types (ty.Named k) d e = by (slice_get types k) refl e where
   by : (o : Option (List ℕ × TypeDef)) → slice_get types k ≡ o → option_map (λ (t : List ℕ × TypeDef). t.1) o ≡ Some d
       → (k : ℕ) × (t : List ℕ × TypeDef) × (slice_get types k ≡ Some t) × (t.1 ≡ d)
   by None is made = absurd (cc)
   by (Some t) is made = (k, t, is, same_Some t.1 d made)
+type_at types _ d e = absurd (cc)
 
 -- no two fields of a record type of the module have one name
 pub own_names : (m : Module) (types : Types) → AreTypes m types → HaveOwnNames m.definitions → OwnNames types

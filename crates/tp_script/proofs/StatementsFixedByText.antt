@@ -1,55 +1,35 @@
 -- Statements of the text stand for one list of statements, and so a body of the text for one body.
 use Rattle.std.specs.List.{AllZip}
 use Rattle.std.proofs.Common.{◌≡◌, ℕ, ◌+◌, List, ◌++◌, Option, Some, None, refl, ap, sym, subst, ◌∙◌}
-use Rattle.tp_tree.specs.declared.message.Message.{Message}
-use Rattle.tp_tree.specs.declared.message.MessageTemplate.{MessageTemplate}
-use Rattle.tp_tree.specs.declared.tree.ComponentName.{ComponentName}
+use Rattle.tp_tree.specs.declared.message.{Message.Message, MessageTemplate.MessageTemplate}
+use Rattle.tp_tree.specs.declared.tree.{ComponentName.ComponentName, SentExpression.SentExpression, Receivers.Receivers, Send.Send}
+use Rattle.tp_tree.specs.declared.tree.{Receive.Receive, VerdictName.VerdictName, Action.Action, BranchBody.BranchBody, Counted.out-Counted}
+use Rattle.tp_tree.specs.declared.tree.{Branch.Branch as BranchText, Statement.Statement as StatementText}
 use Rattle.tp_tree.specs.declared.tree.ComponentName.TheVariants as component_name
-use Rattle.tp_tree.specs.declared.tree.SentExpression.{SentExpression}
-use Rattle.tp_tree.specs.declared.tree.Receivers.{Receivers}
-use Rattle.tp_tree.specs.declared.tree.Send.{Send}
-use Rattle.tp_tree.specs.declared.tree.Receive.{Receive}
-use Rattle.tp_tree.specs.declared.tree.VerdictName.{VerdictName}
-use Rattle.tp_tree.specs.declared.tree.Action.{Action}
 use Rattle.tp_tree.specs.declared.tree.Action.TheVariants as a
-use Rattle.tp_tree.specs.declared.tree.BranchBody.{BranchBody}
 use Rattle.tp_tree.specs.declared.tree.BranchBody.TheVariants as b
-use Rattle.tp_tree.specs.declared.tree.Branch.{Branch as BranchText}
-use Rattle.tp_tree.specs.declared.tree.Counted.{out-Counted}
-use Rattle.tp_tree.specs.declared.tree.Statement.{Statement as StatementText}
 use Rattle.tp_value.specs.declared.types.Ty.{Ty}
 use Rattle.tp_value.specs.declared.types.Ty.TheVariants as ty
 use Rattle.tp_value.specs.declared.verdict.Verdict.{Verdict}
-use Rattle.tp_play.specs.declared.body.SendMsg.{SendMsg}
-use Rattle.tp_play.specs.declared.body.SendValue.{SendValue}
+use Rattle.tp_play.specs.declared.body.{SendMsg.SendMsg, SendValue.SendValue, RecvMsg.RecvMsg, Sent.Sent, Receiver.Receiver}
+use Rattle.tp_play.specs.declared.body.{SendOperation.SendOperation, Receiving.Receiving, ResolvedStatement.ResolvedStatement}
+use Rattle.tp_play.specs.declared.body.{ResolvedBranch.ResolvedBranch, VariableType.VariableType}
 use Rattle.tp_play.specs.declared.body.SendValue.TheVariants as send_value
-use Rattle.tp_play.specs.declared.body.RecvMsg.{RecvMsg}
 use Rattle.tp_play.specs.declared.body.RecvMsg.TheVariants as recv_msg
-use Rattle.tp_play.specs.declared.body.Sent.{Sent}
 use Rattle.tp_play.specs.declared.body.Sent.TheVariants as s
-use Rattle.tp_play.specs.declared.body.Receiver.{Receiver}
 use Rattle.tp_play.specs.declared.body.Receiver.TheVariants as to
-use Rattle.tp_play.specs.declared.body.SendOperation.{SendOperation}
-use Rattle.tp_play.specs.declared.body.Receiving.{Receiving}
-use Rattle.tp_play.specs.declared.body.ResolvedStatement.{ResolvedStatement}
 use Rattle.tp_play.specs.declared.body.ResolvedStatement.TheVariants as statement
-use Rattle.tp_play.specs.declared.body.ResolvedBranch.{ResolvedBranch}
-use Rattle.tp_play.specs.declared.body.VariableType.{VariableType}
 use Rattle.tp_play.specs.declared.body.VariableType.TheVariants as variable_type
-use Rattle.tp_checks.specs.declared.scope.Scope.{Scope}
 use Rattle.tp_checks.specs.declared.scope.Variables.{Variables}
 use Rattle.tp_checks.specs.Scoping as scoping
-use Rattle.tp_checks.specs.Scoping.{IsPortNamed, IsReference, IsType, IsVariable, declared_port_names, declared_port_types, receivable_types, sendable_types}
+use Rattle.tp_checks.specs.Scoping.{IsReference, IsVariable, OwnNames, Visible}
 use Rattle.tp_checks.specs.Messages.{IsMessage, IsValue, IsTemplate}
+use Rattle.tp_checks.specs.Bodies.{IsSent, IsReceiver, IsSend, IsWanted, IsFrom, IsValueTarget, IsSenderTarget, IsReceive, IsVerdict, IsStatement, IsBlock, IsBranch, IsAfter, AreBranches}
 use Rattle.tp_checks.specs.Bodies as bodies
-use Rattle.tp_checks.specs.Bodies.{IsSent, IsReceiver, IsSend, IsWanted, IsFrom, IsValueTarget, IsSenderTarget, IsReceive, IsVerdict, IsStatement, IsBlock, IsBranch, IsAfter, AreBranches, IsVariableType, AreVariables, IsBody}
-use Rattle.tp_checks.specs.Scoping.{OwnNames}
-use Rattle.tp_checks.proofs.ListPrefixGrowth.{zip_push}
-use Rattle.tp_checks.proofs.UniqueZipsAndPlaces.{Fixes, zip_fixed}
+use Rattle.tp_checks.proofs.{ListPrefixGrowth.zip_push, UniqueZipsAndPlaces.Fixes, UniqueZipsAndPlaces.zip_fixed}
 use Rattle.tp_checks.proofs.NameLookupsAreUnique.{place_fixed, type_fixed}
 use Rattle.tp_checks.proofs.StatementInversions.{StandsFor, after_means, block_zip, branches_zip, made_parts, ruled}
-use Rattle.tp_script.proofs.ValuesFixedByText.{value_fixed}
-use Rattle.tp_script.proofs.TemplatesFixedByText.{template_fixed}
+use Rattle.tp_script.proofs.{ValuesFixedByText.value_fixed, TemplatesFixedByText.template_fixed}
 
 abbrev message : Ty → SendValue → SendMsg
 message u w = record { ty = u; value = w }
@@ -65,13 +45,13 @@ received w port wanted sender value_to sender_to =
 abbrev branch_of : Receiving → List ResolvedStatement → ResolvedBranch
 branch_of r block = record { receiving = r; block = block }
 
-module _ (scope : Scope) (own : OwnNames scope.types.now) where
-  message_fixed : (turns : List (List ℕ)) (x : Message) (w y : SendMsg) → IsMessage scope.types.now turns x w → IsMessage scope.types.now turns x y → w ≡ y
+module _ (scope : Visible) (own : OwnNames scope.types) where
+  message_fixed : (turns : List (List ℕ)) (x : Message) (w y : SendMsg) → IsMessage scope.types turns x w → IsMessage scope.types turns x y → w ≡ y
   message_fixed turns x w y h k =
-      let same = type_fixed scope.types.now x.type_name w.ty y.ty h.type_known k.type_known in
+      let same = type_fixed scope.types x.type_name w.ty y.ty h.type_known k.type_known in
       ap (λ u. message u w.value) same
       ∙ ap (message y.ty)
-      (value_fixed scope.types.now turns own (subst (λ u. IsValue scope.types.now turns u x.value w.value) same h.fits) y.value k.fits)
+      (value_fixed scope.types turns own (subst (λ u. IsValue scope.types turns u x.value w.value) same h.fits) y.value k.fits)
 
   module _ (variables : Variables) where
     variable_fixed : (name : List ℕ) (i j : ℕ) (u w : VariableType) → IsVariable variables name i u → IsVariable variables name j w → i ≡ j
@@ -90,7 +70,7 @@ module _ (scope : Scope) (own : OwnNames scope.types.now) where
     reference_fixed turns _ _ _ scoping.mtc scoping.mtc = refl
     reference_fixed turns _ _ _ scoping.itself scoping.itself = refl
     reference_fixed turns _ _ _ (scoping.component_named n i one two place) (scoping.component_named _ j three four known) =
-        ap (λ k. 2 + k) (place_fixed (scope.parameters.now ++ scope.component_variables.now) n i j place known)
+        ap (λ k. 2 + k) (place_fixed (scope.parameters ++ scope.component_variables) n i j place known)
 
     -- a name that is a variable's is no component's
     no_reference : (turns : List (List ℕ)) (n : List ℕ) (i j : ℕ) (u : VariableType) → IsVariable variables n i u
@@ -115,9 +95,9 @@ module _ (scope : Scope) (own : OwnNames scope.types.now) where
     wanted_fixed : (turns : List (List ℕ)) (listed other : List Ty) (x : Option MessageTemplate) (w y : RecvMsg) → IsWanted scope turns listed x w → IsWanted scope turns other x y → w ≡ y
     wanted_fixed turns listed other _ _ _ bodies.every_message bodies.every_message = refl
     wanted_fixed turns listed other _ _ _ (bodies.matching x u r h there fits) (bodies.matching _ w q k here matches) =
-        let same = type_fixed scope.types.now x.type_name u w h k in
+        let same = type_fixed scope.types x.type_name u w h k in
         ap (λ v. recv_msg.Of v r) same
-        ∙ ap (recv_msg.Of w) (template_fixed scope.types.now turns own (subst (λ v. IsTemplate scope.types.now turns v x.template r) same fits) q matches)
+        ∙ ap (recv_msg.Of w) (template_fixed scope.types turns own (subst (λ v. IsTemplate scope.types turns v x.template r) same fits) q matches)
 
     from_fixed : (turns : List (List ℕ)) (x : Option ComponentName) (w y : Option ℕ) → IsFrom scope variables turns x w → IsFrom scope variables turns x y → w ≡ y
     from_fixed turns _ _ _ bodies.whoever bodies.whoever = refl

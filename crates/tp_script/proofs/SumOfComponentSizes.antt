@@ -1,19 +1,15 @@
 -- The sum of the sizes of what the components do.
 use Rattle.std.proofs.Common.{◌≡◌, ◌⊎◌, inl, inr, ℕ, ◌+◌, ◌<◌, ◌≤◌, List, [], ◌∷◌, Option, None, Some, map, sum, slice_get, option_map, refl, sym, ap, ◌∙◌, arith}
-use Rattle.std.specs.List.{slice_index_or}
-use Rattle.std.specs.Option.{option_map_or}
-use Rattle.std.proofs.lemmas.Bool.{cases_lt}
-use Rattle.std.proofs.lemmas.List.Sums.{sum-map, sum_by-cons}
+use Rattle.std.proofs.{lemmas.Bool.cases_lt, lemmas.List.Sums.sum-map, lemmas.List.Sums.sum_by-cons}
+use Rattle.std.specs.{List.slice_index_or, Option.option_map_or}
 use Rattle.tp_config.proofs.PortLookupByFields.{get_or_mapped}
 use Rattle.tp_play.specs.declared.body.Body.{Body}
-use Rattle.tp_play.specs.Sizes.{size_limit, capped, size_of_body}
+use Rattle.tp_play.specs.{Sizes.size_limit, Sizes.capped, Sizes.size_of_body, Behaviours.size_of_behaviour}
+use Rattle.tp_play.specs.Instances.{body_in, behaviour_of}
 use Rattle.tp_checks.proofs.CappedStatementSizes.{cap_add, cap_above, cap_below}
 use Rattle.tp_play.specs.declared.bodies.Bodies.{Bodies}
-use Rattle.tp_play.specs.declared.instance.Instance.{Instance}
-use Rattle.tp_play.specs.declared.instance.WhichBody.{WhichBody}
+use Rattle.tp_play.specs.declared.instance.{Instance.Instance, WhichBody.WhichBody}
 use Rattle.tp_play.specs.declared.instance.WhichBody.TheVariants as which_body
-use Rattle.tp_play.specs.Behaviours.{size_of_behaviour}
-use Rattle.tp_play.specs.Instances.{body_in, behaviour_of}
 use Rattle.tp_script.specs.Instances.{size_from, size_of_instance}
 
 pub sum_cons : {X : Type 0} (f : X → ℕ) (x : X) (xs : List X) → sum (map f (x ∷ xs)) ≡ f x + sum (map f xs)

@@ -1,23 +1,18 @@
 -- A template of the text stands for one template.
 use Rattle.std.proofs.Common.{◌≡◌, ℕ, List, [], ◌∷◌, ◌++◌, map, refl, ap, sym, subst, ◌∙◌}
 use Rattle.std.specs.List.{AllZip, zip}
-use Rattle.tp_tree.specs.declared.message.Template.{Template}
+use Rattle.tp_tree.specs.declared.message.{Template.Template, TemplateField.TemplateField}
 use Rattle.tp_tree.specs.declared.message.Template.TheVariants as t
-use Rattle.tp_tree.specs.declared.message.TemplateField.{TemplateField}
-use Rattle.tp_value.specs.declared.types.Ty.{Ty}
-use Rattle.tp_value.specs.declared.types.Field.{Field}
-use Rattle.tp_value.specs.declared.types.Types.{Types}
+use Rattle.tp_value.specs.declared.types.{Ty.Ty, Field.Field, Types.Types}
 use Rattle.tp_play.specs.declared.body.SendValue.TheVariants as send_value
 use Rattle.tp_play.specs.declared.body.RecvTemplate.{RecvTemplate}
 use Rattle.tp_play.specs.declared.body.RecvTemplate.TheVariants as recv_template
-use Rattle.tp_checks.specs.Tables.{AreDistinct}
-use Rattle.tp_checks.specs.Scoping.{OwnNames}
-use Rattle.tp_checks.specs.Messages as m
+use Rattle.tp_checks.specs.{Tables.AreDistinct, Scoping.OwnNames}
 use Rattle.tp_checks.specs.Messages.{IsTemplate, AreMembers, IsElementTemplate, AreElementTemplates, AreFieldTemplates, AreNamedTemplates}
+use Rattle.tp_checks.specs.Messages as m
 use Rattle.tp_checks.proofs.ListPrefixGrowth.{contains_at, zip_one_more, zip_push}
 use Rattle.tp_checks.proofs.UniqueZipsAndPlaces.{Fixes, same_named, zip_fixed}
-use Rattle.tp_checks.proofs.EachFieldHasEntry.{distinct_entries}
-use Rattle.tp_checks.proofs.NameLookupsAreUnique.{place_fixed}
+use Rattle.tp_checks.proofs.{EachFieldHasEntry.distinct_entries, NameLookupsAreUnique.place_fixed}
 use Rattle.tp_checks.proofs.TemplateInversions.{HasEntry, IsFieldTemplate, element_is_template, element_templates_zip, field_templates_count, field_templates_zip, members_zip, named_templates_zip, opened}
 
 module _ (types : Types) (turns : List (List ℕ)) (own : OwnNames types) where

@@ -1,52 +1,26 @@
 -- From what the passes make to the test case.
 use Rattle.std.proofs.Common.{◌≡◌, ℕ, ◌+◌, List, ◌∷◌, Option, None, Some, IsSome, is_some, if◌then◌else◌, Contains, length, map, slice_get, option_map, refl, sym, ap, ◌∙◌, subst, arith}
-use Rattle.std.specs.List.{AllZip}
-use Rattle.std.proofs.lemmas.List.{length-map, length-append}
-use Rattle.std.proofs.lemmas.Option.{slice_get-map, same_Some}
+use Rattle.std.proofs.{lemmas.List.length-map, lemmas.List.length-append, lemmas.Option.slice_get-map, lemmas.Option.same_Some}
 use Rattle.std.proofs.lemmas.Slice.Zip.{AllZip-long}
-use Rattle.tp_tree.specs.declared.tree.Module.{Module}
-use Rattle.tp_tree.specs.declared.tree.TestCase.{TestCase}
-use Rattle.tp_tree.specs.declared.tree.Function.{Function}
-use Rattle.tp_tree.specs.declared.tree.SetupStatement.{SetupStatement}
-use Rattle.tp_tree.specs.declared.tree.SetupAction.{SetupAction}
-use Rattle.tp_tree.specs.declared.tree.SetupAction.TheVariants as a
-use Rattle.tp_config.specs.Setup.{Setup}
+use Rattle.std.specs.List.{AllZip}
+use Rattle.tp_tree.specs.declared.tree.{Module.Module, TestCase.TestCase, Function.Function}
 use Rattle.tp_config.specs.Shape.{ports_of}
-use Rattle.tp_checks.proofs.NameSetLookups.{place_there, place_unknown}
+use Rattle.tp_checks.proofs.{NameSetLookups.place_there, NameSetLookups.place_unknown, UniqueConfigurations.makes_leaves}
+use Rattle.tp_checks.proofs.ListPrefixGrowth.{contains_at, zip_at, zip_beside}
 use Rattle.tp_checks.specs.declared.prepared.Prepared.{Prepared}
-use Rattle.tp_checks.specs.Definitions.{component_type_names, functions}
-use Rattle.tp_checks.specs.Rules.{sut}
+use Rattle.tp_checks.specs.{Definitions.component_type_names, Definitions.functions, Rules.sut, Configuring.interface_number}
 use Rattle.tp_checks.specs.Components.{IsMember, component_list, creations, created, interface, main_component, variable_name, variables}
-use Rattle.tp_checks.specs.Configuring.{IsStep, Makes, nothing, one_more, interface_number}
 use Rattle.tp_checks.specs.Starting.{IsStartPlace, IsStartOf, started_names, type_names_of}
 use Rattle.tp_checks.specs.Prepared.{IsPreparedOf}
-use Rattle.tp_checks.proofs.ListPrefixGrowth.{contains_at, zip_at, zip_beside}
 use Rattle.tp_play.specs.declared.body.Body.{Body}
 use Rattle.tp_play.specs.declared.bodies.Bodies.{Bodies}
 use Rattle.tp_play.specs.declared.instance.Instance.{Instance}
-use Rattle.tp_script.specs.Scopes.{IsMainBody, IsFunctionBody}
-use Rattle.tp_script.specs.Behaviours as d
-use Rattle.tp_play.specs.Behaviours.{Behaviour}
-use Rattle.tp_script.specs.Behaviours.{Does}
-use Rattle.tp_script.specs.Instances as instances
-use Rattle.tp_play.specs.Instances.{body_in, behaviour_of}
+use Rattle.tp_script.specs.{Scopes.IsMainBody, Scopes.IsFunctionBody, Behaviours.Does}
 use Rattle.tp_script.specs.Instances.{known_in, IsInstance, AreInstances, instance_count}
 use Rattle.tp_script.specs.TestCases.{known_of, AreKinds, IsTestCaseOf}
-
--- a setup statement leaves the component types and the components
-step_keeps : (s t : Setup) (names : List (List ℕ)) (system : Option ℕ) (x : SetupAction) → IsStep s names system x t
-    → (t.types ≡ s.types) × (length t.components ≡ length s.components)
-step_keeps s t names system (a.Create c) e = (ap (λ (u : Setup). u.types) e, ap (λ (u : Setup). length u.components) e)
-step_keeps s t names system (a.Connect p q) e = (ap (λ (u : Setup). u.types) e.connected, ap (λ (u : Setup). length u.components) e.connected)
-step_keeps s t names system (a.Map p q) e = (ap (λ (u : Setup). u.types) e.mapped, ap (λ (u : Setup). length u.components) e.mapped)
-
-makes_keeps : (system : Option ℕ) (start : Setup) (xs : List SetupStatement) (s : Setup) → Makes system start xs s
-    → (s.types ≡ start.types) × (length s.components ≡ length start.components)
-makes_keeps system start xs s nothing = (refl, refl)
-makes_keeps system start xs s (one_more ys r x t before step) =
-    let earlier = makes_keeps system start ys r before in
-    let here = step_keeps r t (variables ys) system x.action step in
-    (here.0 ∙ earlier.0, here.1 ∙ earlier.1)
+use Rattle.tp_script.specs.Behaviours as d
+use Rattle.tp_play.specs.{Behaviours.Behaviour, Instances.body_in, Instances.behaviour_of}
+use Rattle.tp_script.specs.Instances as instances
 
 -- what an item of a list was made of
 pub mapped_from : {A B : Type 0} (f : A → B) (xs : List A) (k : ℕ) (y : B) → slice_get (map f xs) k ≡ Some y → (x : A) × (slice_get xs k ≡ Some x) × (f x ≡ y)
@@ -72,7 +46,7 @@ module _ (m : Module) (p : Prepared) (of : IsPreparedOf m p) where
 
   pub kinds_are : p.config.types ≡ map ports_of of.config.types
   kinds_are =
-      (makes_keeps (interface_number p.case.case.now) of.config.set_up.start p.case.case.now.setups p.config of.config.set_up.makes).0
+      (makes_leaves (interface_number p.case.case.now) of.config.set_up.start p.case.case.now.setups p.config of.config.set_up.makes).0
       ∙ of.config.set_up.types_are
 
   pub kinds : AreKinds m p.config.types
@@ -85,7 +59,7 @@ module _ (m : Module) (p : Prepared) (of : IsPreparedOf m p) where
 
   pub everyone : length p.config.components ≡ instance_count p
   everyone =
-      let kept = (makes_keeps (interface_number p.case.case.now) of.config.set_up.start p.case.case.now.setups p.config of.config.set_up.makes).1 in
+      let kept = ap length (makes_leaves (interface_number p.case.case.now) of.config.set_up.start p.case.case.now.setups p.config of.config.set_up.makes).1 in
       let listed =
       AllZip-long (IsMember (component_type_names m)) (component_list p.case.case.now) of.config.set_up.start.components of.config.set_up.components_are in
       let first = length-map (creations p.case.case.now.setups) created in

@@ -1,31 +1,19 @@
 -- What bodies may speak of is fixed by the module: its types, and the ports of its component types.
-use Rattle.std.proofs.Common.{◌≡◌, ℕ, ◌+◌, List, [], ◌∷◌, Contains, slice_get, sym, ap, ◌∙◌, arith, add-one}
+use Rattle.std.proofs.Common.{◌≡◌, ℕ, List, [], ◌∷◌, Contains, slice_get, sym, ap, ◌∙◌}
 use Rattle.std.proofs.lemmas.Option.{same_Some}
 use Rattle.tp_tree.specs.declared.message.TypeName.{TypeName}
-use Rattle.tp_tree.specs.declared.tree.Module.{Module}
-use Rattle.tp_tree.specs.declared.tree.Defined.{Defined}
+use Rattle.tp_tree.specs.declared.tree.{Module.Module, Defined.Defined, FieldType.FieldType, Function.Function, TestCase.TestCase}
 use Rattle.tp_tree.specs.declared.tree.Defined.TheVariants as definition
-use Rattle.tp_tree.specs.declared.tree.FieldType.{FieldType}
-use Rattle.tp_tree.specs.declared.tree.Function.{Function}
-use Rattle.tp_tree.specs.declared.tree.TestCase.{TestCase}
-use Rattle.tp_value.specs.declared.types.Ty.{Ty}
-use Rattle.tp_value.specs.declared.types.Field.{Field}
-use Rattle.tp_value.specs.declared.types.TypeDef.{TypeDef}
+use Rattle.tp_value.specs.declared.types.{Ty.Ty, Field.Field, TypeDef.TypeDef, Types.Types}
 use Rattle.tp_value.specs.declared.types.TypeDef.TheVariants as type_def
-use Rattle.tp_value.specs.declared.types.Types.{Types}
-use Rattle.tp_config.specs.Setup.{PortDecl}
-use Rattle.tp_config.specs.Shape.{ports_of}
-use Rattle.tp_checks.specs.Tables.{AreDistinct}
+use Rattle.tp_config.specs.{Setup.PortDecl, Shape.ports_of}
+use Rattle.tp_checks.specs.{Tables.AreDistinct, Rules.HasUniqueNames}
 use Rattle.tp_checks.specs.Definitions.{component_types, definition_names, function_of, functions, port_types, test_cases, type_definitions, type_names}
 use Rattle.tp_checks.specs.Resolved.{AreTypes, IsComponentType, IsField, IsNamedType, IsTypeDef, IsTypeNamed}
 use Rattle.tp_checks.proofs.UniqueZipsAndPlaces.{same_named, zip_same, zip_seen}
-use Rattle.tp_script.specs.TestCases.{AreKinds}
 use Rattle.tp_checks.proofs.UniqueComponentTypes.{component_same, ports_apart}
 use Rattle.tp_checks.proofs.DistinctNamesInParts.{distinct_among, function_named}
-use Rattle.tp_checks.specs.Rules.{HasUniqueNames}
-
-pub contains_more : {A : Type 0} (x : A) (xs : List A) (y : A) → Contains xs y → Contains (x ∷ xs) y
-contains_more x xs y (k, below, is) = (k + 1, omega (arith, below), rw add-one is)
+use Rattle.tp_script.specs.TestCases.{AreKinds}
 
 -- of one name there is one function
 pub one_function_named : (m : Module) (f g : Function) → AreDistinct (definition_names m) → Contains (functions m) f → Contains (functions m) g
@@ -50,14 +38,9 @@ definition_fixed : (types : List (List ℕ)) (x : Defined) (a b : TypeDef) → I
 definition_fixed types (definition.Record r) (type_def.Record xs) (type_def.Record ys) h k =
     ap type_def.Record (zip_same (IsField types) (field_fixed types) r.fields xs ys h k)
 definition_fixed types (definition.Record r) (type_def.Record xs) (type_def.ListOf t) h k = absurd k
-definition_fixed types (definition.Record r) (type_def.ListOf t) b h k = absurd h
-definition_fixed types (definition.List l) (type_def.Record xs) b h k = absurd h
 definition_fixed types (definition.List l) (type_def.ListOf s) (type_def.Record ys) h k = absurd k
 definition_fixed types (definition.List l) (type_def.ListOf s) (type_def.ListOf t) h k = ap type_def.ListOf (type_fixed types l.element s t h k)
-definition_fixed types (definition.Port p) a b h k = absurd h
-definition_fixed types (definition.Component c) a b h k = absurd h
-definition_fixed types (definition.Function f) a b h k = absurd h
-definition_fixed types (definition.TestCase c) a b h k = absurd h
+definition_fixed _ _ _ _ h _ = absurd h
 
 abbrev under : List ℕ → TypeDef → List ℕ × TypeDef
 under n d = (n, d)

@@ -1,22 +1,17 @@
 -- A value of the text stands for one value to be sent.
 use Rattle.std.proofs.Common.{◌≡◌, ℕ, List, [], ◌∷◌, ◌++◌, map, ap, sym, subst, ◌∙◌}
 use Rattle.std.specs.List.{AllZip, zip}
-use Rattle.tp_tree.specs.declared.message.Value.{Value}
+use Rattle.tp_tree.specs.declared.message.{Value.Value, ValueField.ValueField}
 use Rattle.tp_tree.specs.declared.message.Value.TheVariants as v
-use Rattle.tp_tree.specs.declared.message.ValueField.{ValueField}
-use Rattle.tp_value.specs.declared.types.Ty.{Ty}
-use Rattle.tp_value.specs.declared.types.Field.{Field}
-use Rattle.tp_value.specs.declared.types.Types.{Types}
+use Rattle.tp_value.specs.declared.types.{Ty.Ty, Field.Field, Types.Types}
 use Rattle.tp_play.specs.declared.body.SendValue.{SendValue}
 use Rattle.tp_play.specs.declared.body.SendValue.TheVariants as send_value
-use Rattle.tp_checks.specs.Tables.{AreDistinct}
-use Rattle.tp_checks.specs.Scoping.{OwnNames}
-use Rattle.tp_checks.specs.Messages as m
+use Rattle.tp_checks.specs.{Tables.AreDistinct, Scoping.OwnNames}
 use Rattle.tp_checks.specs.Messages.{IsValue, AreElements, AreFields, AreNamed}
+use Rattle.tp_checks.specs.Messages as m
 use Rattle.tp_checks.proofs.ListPrefixGrowth.{contains_at, zip_one_more, zip_push}
 use Rattle.tp_checks.proofs.UniqueZipsAndPlaces.{Fixes, same_named, zip_fixed}
-use Rattle.tp_checks.proofs.EachFieldHasEntry.{distinct_entries}
-use Rattle.tp_checks.proofs.NameLookupsAreUnique.{place_fixed}
+use Rattle.tp_checks.proofs.{EachFieldHasEntry.distinct_entries, NameLookupsAreUnique.place_fixed}
 use Rattle.tp_checks.proofs.ValueInversions.{HasEntry, IsFieldValue, elements_zip, fields_count, fields_zip, names_zip, opened}
 
 module _ (types : Types) (turns : List (List ℕ)) (own : OwnNames types) where

@@ -5,8 +5,7 @@ use Rattle.tp_syntax.specs.ReadTexts.{IsReadAs}
 use Rattle.tp_play.specs.TestCases.{Made}
 use Rattle.tp_script.specs.declared.fault.TestCaseFault.{TestCaseFault}
 use Rattle.tp_script.specs.declared.fault.TestCaseFault.TheVariants.{Refused, Memory}
-use Rattle.tp_script.specs.TestCases.{WellFormed}
-use Rattle.tp_script.specs.Scripts.{IsScriptFaultOf, IsScriptOf}
+use Rattle.tp_script.specs.{TestCases.WellFormed, Scripts.IsScriptFaultOf, Scripts.IsScriptOf}
 
 -- the fault is that memory ran out
 abbrev pub IsWantOfMemory : TestCaseFault → Type 0

@@ -1,12 +1,9 @@
 -- What the components of a test case do.
 use Rattle.std.specs.Prelude.{◌≡◌, ◌<◌, ◌+◌, ℕ, Option, Some, None, List, [], ◌∷◌, ◌++◌, Contains, length, map}
 use Rattle.std.specs.Prelude.{slice_get}
-use Rattle.tp_tree.specs.declared.tree.Function.{Function}
-use Rattle.tp_tree.specs.declared.tree.TestCase.{TestCase}
-use Rattle.tp_checks.specs.declared.starts.StartedComponent.{StartedComponent}
-use Rattle.tp_checks.specs.declared.starts.Starts.{Starts}
-use Rattle.tp_checks.specs.Configuring.{interface_number}
-use Rattle.tp_checks.specs.Rules.{sut}
+use Rattle.tp_tree.specs.declared.tree.{Function.Function, TestCase.TestCase}
+use Rattle.tp_checks.specs.declared.starts.{StartedComponent.StartedComponent, Starts.Starts}
+use Rattle.tp_checks.specs.{Configuring.interface_number, Rules.sut}
 use Rattle.tp_play.specs.Behaviours.{Behaviour}
 use Rattle.tp_script.specs.Scopes.{Known, IsMainBody, IsFunctionBody}
 

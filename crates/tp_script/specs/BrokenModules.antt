@@ -1,33 +1,25 @@
 -- Which rule a module breaks, and at which line: on its declarations, its bodies or its size.
 use Rattle.std.specs.Prelude.{◌≡◌, ◌<◌, ℕ, List, [], ◌∷◌, ◌++◌, Some, map}
 use Rattle.std.specs.List.{AllZip}
-use Rattle.tp_tree.specs.declared.tree.Module.{Module}
-use Rattle.tp_tree.specs.declared.tree.Definition.{Definition}
-use Rattle.tp_tree.specs.declared.tree.Function.{Function}
-use Rattle.tp_tree.specs.declared.tree.Statement.{Statement}
-use Rattle.tp_tree.specs.declared.tree.TestCase.{TestCase}
-use Rattle.tp_tree.specs.declared.tree.Variable.{Variable}
+use Rattle.tp_tree.specs.declared.tree.{Module.Module, Definition.Definition, Function.Function, Statement.Statement}
+use Rattle.tp_tree.specs.declared.tree.{TestCase.TestCase, Variable.Variable}
 use Rattle.tp_value.specs.declared.types.Types.{Types}
 use Rattle.tp_config.specs.Setup.{Setup}
-use Rattle.tp_checks.specs.declared.fault.ModuleRule.{ModuleRule}
-use Rattle.tp_checks.specs.declared.fault.ModuleRule.TheVariants.{Limit}
-use Rattle.tp_checks.specs.Broken.{DeclarationsBreak}
+use Rattle.tp_checks.specs.declared.fault.{ModuleRule.ModuleRule, ModuleRule.TheVariants.Limit}
+use Rattle.tp_checks.specs.{Broken.DeclarationsBreak, Prepared.IsConfigOf, Prepared.IsWellDeclared, Resolved.AreTypes}
 use Rattle.tp_checks.specs.Definitions.{BeginsAmong, of_kind, declared, function_of, test_cases}
-use Rattle.tp_checks.specs.Prepared.{IsConfigOf, IsWellDeclared}
-use Rattle.tp_checks.specs.Resolved.{AreTypes}
+use Rattle.tp_checks.specs.{Scoping.Visible, BrokenBodies.BodyBreaks}
 use Rattle.tp_play.specs.declared.body.Body.{Body}
 use Rattle.tp_play.specs.TestCases.{Made}
 use Rattle.tp_checks.specs.declared.scope.BehaviourKind.{BehaviourKind}
 use Rattle.tp_checks.specs.declared.scope.BehaviourKind.TheVariants as behaviour_kind
-use Rattle.tp_checks.specs.declared.scope.Scope.{Scope}
-use Rattle.tp_checks.specs.BrokenBodies.{BodyBreaks}
 use Rattle.tp_script.specs.Scopes.{IsFunctionBody, IsMainBody, IsScope, Known, plays_of}
 use Rattle.tp_script.specs.TestCases.{HasSoundBodies, IsTestCaseOf, known_of, size_of_test_case}
 
 -- these variables and statements, whose definition begins at this line, break a rule on bodies in such a scope
 pub record BreaksIn (known : Known) (plays : BehaviourKind) (runs_on : List ℕ) (parameters : List (List ℕ)) (begins : ℕ)
     (variables : List Variable) (statements : List Statement) (rule : ModuleRule) (line : ℕ) : Type 0 where
-  pub scope : Scope
+  pub scope : Visible
   pub is_scope : IsScope known plays runs_on parameters scope
   pub breaks : BodyBreaks scope begins variables statements rule line
 

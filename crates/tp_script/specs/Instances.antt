@@ -1,17 +1,13 @@
 -- Which instances of bodies the components of a test case have.
 use Rattle.std.specs.Prelude.{◌≡◌, ◌<◌, ◌≤◌, ◌+◌, ℕ, Option, Some, None, List, [], All, map, slice_get, length, IsSome}
-use Rattle.std.specs.Prelude.{is_some}
+use Rattle.std.specs.{Prelude.is_some, List.slice_index_or}
 use Rattle.std.specs.Prelude.{if◌then◌else◌}
-use Rattle.std.specs.List.{slice_index_or}
 use Rattle.tp_checks.specs.declared.prepared.Prepared.{Prepared}
 use Rattle.tp_checks.specs.declared.starts.StartedComponent.{StartedComponent}
-use Rattle.tp_checks.specs.Rules.{sut}
-use Rattle.tp_checks.specs.Tables.{place_of_name}
-use Rattle.tp_play.specs.declared.instance.Instance.{Instance}
-use Rattle.tp_play.specs.declared.instance.WhichBody.{WhichBody}
+use Rattle.tp_checks.specs.{Rules.sut, Tables.place_of_name}
+use Rattle.tp_play.specs.declared.instance.{Instance.Instance, WhichBody.WhichBody}
 use Rattle.tp_play.specs.declared.instance.WhichBody.TheVariants as which_body
-use Rattle.tp_script.specs.Scopes.{Known}
-use Rattle.tp_script.specs.Behaviours.{AreReferences}
+use Rattle.tp_script.specs.{Scopes.Known, Behaviours.AreReferences}
 
 -- what the bodies may use, after the first three passes
 abbrev pub known_in : Prepared → Known

@@ -1,24 +1,17 @@
 -- What the bodies of a module may use.
 use Rattle.std.specs.Prelude.{◌≡◌, ◌≤◌, ℕ, List, [], Some, All, Contains, length, map, slice_get, if◌then◌else◌}
-use Rattle.std.specs.List.{AllZip}
-use Rattle.std.specs.Str.{bytes_eq}
-use Rattle.tp_tree.specs.declared.tree.Definition.{Definition}
-use Rattle.tp_tree.specs.declared.tree.Function.{Function}
-use Rattle.tp_tree.specs.declared.tree.Statement.{Statement}
-use Rattle.tp_tree.specs.declared.tree.TestCase.{TestCase}
-use Rattle.tp_tree.specs.declared.tree.Variable.{Variable}
+use Rattle.std.specs.{List.AllZip, Str.bytes_eq}
+use Rattle.tp_tree.specs.declared.tree.{Definition.Definition, Function.Function, Statement.Statement}
+use Rattle.tp_tree.specs.declared.tree.{TestCase.TestCase, Variable.Variable}
 use Rattle.tp_value.specs.declared.types.Types.{Types}
+use Rattle.tp_config.specs.declared.port_type.PortType.{PortType}
 use Rattle.tp_config.specs.Setup.{PortDecl}
-use Rattle.tp_config.specs.Shape.{ports_of}
-use Rattle.tp_checks.specs.Tables.{IsNumbered, place_of_name}
-use Rattle.tp_checks.specs.Definitions.{declared, inner_names}
-use Rattle.tp_checks.specs.Rules.{AreComponentTypesKnown, sut}
+use Rattle.tp_checks.specs.{Tables.IsNumbered, Tables.place_of_name, Definitions.declared, Definitions.inner_names}
+use Rattle.tp_checks.specs.{Rules.AreComponentTypesKnown, Rules.sut, Bodies.IsBody}
+use Rattle.tp_checks.specs.Scoping.{OwnNames, Ports, Visible}
 use Rattle.tp_play.specs.declared.body.Body.{Body}
 use Rattle.tp_checks.specs.declared.scope.BehaviourKind.{BehaviourKind}
 use Rattle.tp_checks.specs.declared.scope.BehaviourKind.TheVariants as behaviour_kind
-use Rattle.tp_checks.specs.declared.scope.Scope.{Scope}
-use Rattle.tp_checks.specs.Bodies.{IsBody}
-use Rattle.tp_checks.specs.Scoping.{OwnNames}
 
 -- what each body of a module may use: the types of messages, the component types by their names, with their ports, and
 -- the component variables of the test case
@@ -28,23 +21,39 @@ pub record Known : Type 0 where
   pub ports : List (List PortDecl)
   pub components : List (List ℕ)
 
+-- declared ports, as a body sees them
+abbrev pub port_of_decl : PortDecl → PortType
+port_of_decl d = record { ins = d.ins; outs = d.outs }
+
+abbrev pub visible_ports : List PortDecl → Ports
+visible_ports ports = record { names = map (λ d. d.name) ports; types = map port_of_decl ports }
+
+-- what a behaviour may use, given the ports of the component type that it runs on, and the names of its parameters
+abbrev pub visible_to : Known → BehaviourKind → List PortDecl → List (List ℕ) → Visible
+visible_to known plays ports names =
+    record {
+      types = known.types;
+      component_types = known.component_types;
+      ports = visible_ports ports;
+      behaviour = plays;
+      parameters = names;
+      component_variables = known.components;
+    }
+
 -- what a behaviour may use that runs on the component type of this name and has parameters of these names
-pub record IsScope (known : Known) (plays : BehaviourKind) (runs_on : List ℕ) (names : List (List ℕ)) (scope : Scope)
+pub record IsScope (known : Known) (plays : BehaviourKind) (runs_on : List ℕ) (names : List (List ℕ)) (scope : Visible)
     : Type 0 where
-  pub types : scope.types.now ≡ known.types
-  pub component_types : scope.component_types.now ≡ known.component_types
   -- the ports are those of the component type after `runs on`
   pub kind : ℕ
   pub kind_known : place_of_name known.component_types runs_on ≡ Some kind
-  pub ports : slice_get known.ports kind ≡ Some (ports_of scope.component_type.now)
-  pub behaviour : scope.behaviour ≡ plays
-  pub parameters : scope.parameters.now ≡ names
-  pub components : scope.component_variables.now ≡ known.components
+  pub ports : List PortDecl
+  pub ports_known : slice_get known.ports kind ≡ Some ports
+  pub scope_is : scope ≡ visible_to known plays ports names
 
 -- these variables and statements obey the rules on bodies in such a scope, and stand for this body
 pub record IsBodyInScope (known : Known) (plays : BehaviourKind) (runs_on : List ℕ) (parameters : List (List ℕ))
     (variables : List Variable) (statements : List Statement) (body : Body) : Type 0 where
-  pub scope : Scope
+  pub scope : Visible
   pub is_scope : IsScope known plays runs_on parameters scope
   pub is_body : IsBody scope variables statements body
 

@@ -7,8 +7,7 @@ use Rattle.tp_play.specs.TestCases.{Made}
 use Rattle.tp_script.specs.declared.fault.ScriptRule.TheVariants as script_rule
 use Rattle.tp_script.specs.declared.fault.TestCaseFault.{TestCaseFault}
 use Rattle.tp_script.specs.declared.fault.TestCaseFault.TheVariants as test_case_fault
-use Rattle.tp_script.specs.BrokenModules.{ModuleBreaks}
-use Rattle.tp_script.specs.TestCases.{IsTestCaseOf, WellFormed}
+use Rattle.tp_script.specs.{BrokenModules.ModuleBreaks, TestCases.IsTestCaseOf, TestCases.WellFormed}
 
 -- the text is a script of this test case: it is read as a module of the grammar, within the limits of the text, of
 -- names and numbers, and of open brackets; and the module obeys the rules and has that test case

@@ -1,23 +1,17 @@
 -- The test case of a module.
 use Rattle.std.specs.Prelude.{◌≡◌, ◌≤◌, ℕ, Option, Some, List, [], ◌∷◌, length, map, slice_get, sum}
 use Rattle.std.specs.List.{AllZip}
-use Rattle.tp_tree.specs.declared.tree.Module.{Module}
-use Rattle.tp_tree.specs.declared.tree.TestCase.{TestCase}
+use Rattle.tp_tree.specs.declared.tree.{Module.Module, TestCase.TestCase}
 use Rattle.tp_value.specs.declared.types.Types.{Types}
 use Rattle.tp_config.specs.declared.port_type.CompType.{CompType}
-use Rattle.tp_config.specs.Setup.{Setup, PortDecl}
-use Rattle.tp_config.specs.Shape.{ports_of}
+use Rattle.tp_config.specs.{Setup.Setup, Setup.PortDecl, Shape.ports_of}
 use Rattle.tp_checks.specs.declared.starts.Starts.{Starts}
 use Rattle.tp_checks.specs.Definitions.{component_type_names, functions, test_cases}
-use Rattle.tp_checks.specs.Resolved.{AreTypes, AreComponentTypes}
-use Rattle.tp_checks.specs.Components.{variables}
-use Rattle.tp_checks.specs.Starting.{AreStarts}
+use Rattle.tp_checks.specs.{Resolved.AreTypes, Resolved.AreComponentTypes, Components.variables, Starting.AreStarts}
 use Rattle.tp_checks.specs.Prepared.{IsConfigOf, IsWellDeclared}
 use Rattle.tp_play.specs.declared.body.Body.{Body}
-use Rattle.tp_script.specs.Scopes.{Known, IsMainBody, IsFunctionBody}
-use Rattle.tp_play.specs.Behaviours.{Behaviour, size_of_behaviour}
-use Rattle.tp_play.specs.TestCases.{Made}
-use Rattle.tp_script.specs.Behaviours.{Does}
+use Rattle.tp_script.specs.{Scopes.Known, Scopes.IsMainBody, Scopes.IsFunctionBody, Behaviours.Does}
+use Rattle.tp_play.specs.{Behaviours.Behaviour, Behaviours.size_of_behaviour, TestCases.Made}
 
 -- what the bodies of a module with this test case may use
 abbrev pub known_of : Module → TestCase → Setup → Types → Known

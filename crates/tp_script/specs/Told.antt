@@ -6,9 +6,8 @@ use Rattle.tp_syntax.specs.Told.{text_refusal}
 use Rattle.tp_checks.specs.declared.fault.ModuleFault.{ModuleFault}
 use Rattle.tp_checks.specs.declared.fault.ModuleFault.TheVariants as module_fault
 use Rattle.tp_checks.specs.Told.{rule_refusal}
-use Rattle.tp_script.specs.declared.fault.ScriptRule.{ScriptRule}
+use Rattle.tp_script.specs.declared.fault.{ScriptRule.ScriptRule, TestCaseFault.TestCaseFault}
 use Rattle.tp_script.specs.declared.fault.ScriptRule.TheVariants as script_rule
-use Rattle.tp_script.specs.declared.fault.TestCaseFault.{TestCaseFault}
 use Rattle.tp_script.specs.declared.fault.TestCaseFault.TheVariants as test_case_fault
 
 -- each rule is reported by its own refusal

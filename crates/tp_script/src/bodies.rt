@@ -1,14 +1,11 @@
 //! The fourth pass of the checks: the bodies.
-ghost use Rattle.std.specs.Prelude.{◌≡◌, IfErr, IfOk, List, map};
-ghost use Rattle.std.specs.List.{AllZip};
-ghost use Rattle.tp_checks.specs.Refused.{IsRefusedBy, Tells};
-ghost use Rattle.tp_checks.specs.Tables.{IsNumbered};
-ghost use Rattle.tp_play.specs.declared.body.Body.{Body};
+ghost use Rattle.std.specs.{Prelude.◌≡◌, Prelude.IfErr, Prelude.IfOk, Prelude.map, List.AllZip};
+ghost use Rattle.tp_checks.specs.{Refused.Tells, Tables.IsNumbered};
 ghost use Rattle.tp_checks.specs.Definitions.{of_kind, declared, function_of, functions};
-ghost use Rattle.tp_script.specs.Instances.{known_in};
+ghost use Rattle.tp_play.specs.declared.body.Body.{Body};
+ghost use Rattle.tp_script.specs.{Instances.known_in, Scopes.IsSoundKnown, Scopes.plays_of};
 ghost use Rattle.tp_script.specs.BrokenModules.{BodiesBreak, FunctionBreaks, FunctionsBreak, MainBreaks};
-ghost use Rattle.tp_script.specs.Scopes.{CanAllRun, CanRun, HasBodies, HaveOwnNames, IsFunctionBody, IsMainBody};
-ghost use Rattle.tp_script.specs.Scopes.{IsSoundKnown, plays_of};
+ghost use Rattle.tp_script.specs.Scopes.{CanAllRun, CanRun, HaveOwnNames, IsFunctionBody, IsMainBody};
 
 use crate::scopes::{parameter_names, scope_of};
 use std::alloc::Global;
@@ -35,13 +32,9 @@ fn plays(function: &Function) -> BehaviourKind
 
 fn resolve_main(alloc: Global, prepared: &Prepared) -> Result<Body, ModuleFault>
     ensures body { IfOk result (IsMainBody (known_in prepared.now) prepared.now.case.case.now) }
-    ensures refused { IsSoundKnown (known_in prepared.now)
-        → IfErr result (IsRefusedBy ((body : Body)
-        × IsMainBody (known_in prepared.now) prepared.now.case.case.now body)) }
     ensures told { IsSoundKnown (known_in prepared.now)
-        → CanRun (known_in prepared.now) prepared.now.case.case.now.runs_on
-        → IfErr result (Tells (MainBreaks (known_in prepared.now) prepared.now.case.case.now
-        prepared.now.case.line)) }
+        → CanRun (known_in prepared.now) prepared.now.case.case.now.runs_on → IfErr result (Tells
+        (MainBreaks (known_in prepared.now) prepared.now.case.case.now prepared.now.case.line)) }
 {
     let case = prepared.case.case;
     let line = prepared.case.line;
@@ -70,14 +63,9 @@ fn resolve_function<'m>(
     line: u32,
 ) -> Result<Body, ModuleFault>
     ensures body { IfOk result (IsFunctionBody (known_in prepared.now) function.now) }
-    ensures refused { IsSoundKnown (known_in prepared.now)
-        → IsNumbered (map (λ p. declared p.name) function.now.parameters)
-        → IfErr result (IsRefusedBy ((body : Body)
-        × IsFunctionBody (known_in prepared.now) function.now body)) }
-    ensures told { IsSoundKnown (known_in prepared.now)
-        → IsNumbered (map (λ p. declared p.name) function.now.parameters)
-        → CanRun (known_in prepared.now) function.now.runs_on → IfErr result (
-        Tells (FunctionBreaks (known_in prepared.now) function.now line)) }
+    ensures told { IsSoundKnown (known_in prepared.now) → IsNumbered (map (λ p. declared p.name)
+        function.now.parameters) → CanRun (known_in prepared.now) function.now.runs_on
+        → IfErr result (Tells (FunctionBreaks (known_in prepared.now) function.now line)) }
 {
     let parameters = parameter_names(alloc, function.parameters.as_slice())?;
     let runs_on = function.runs_on.as_str();
@@ -98,9 +86,6 @@ fn resolve_functions<'m>(
 ) -> Result<Vec<Body>, ModuleFault>
     ensures bodies { IfOk result (λ bodies. AllZip (IsFunctionBody (known_in prepared.now))
         (of_kind function_of definitions.now) bodies.items) }
-    ensures refused { IsSoundKnown (known_in prepared.now) → HaveOwnNames definitions.now
-        → IfErr result (IsRefusedBy ((bodies : List Body) × AllZip
-        (IsFunctionBody (known_in prepared.now)) (of_kind function_of definitions.now) bodies)) }
     ensures told { IsSoundKnown (known_in prepared.now) → HaveOwnNames definitions.now
         → CanAllRun (known_in prepared.now) definitions.now → IfErr result (
         Tells (FunctionsBreak (known_in prepared.now) definitions.now)) }
@@ -131,15 +116,10 @@ pub fn resolve_bodies<'m>(
         IsMainBody (known_in prepared.now) prepared.now.case.case.now b.main) }
     ensures functions { IfOk result (λ b. AllZip (IsFunctionBody (known_in prepared.now))
         (functions parsed.now) b.functions.items) }
-    ensures refused { IsSoundKnown (known_in prepared.now)
-        → HaveOwnNames parsed.now.definitions → IfErr result (IsRefusedBy (HasBodies
-        (known_in prepared.now) prepared.now.case.case.now (functions parsed.now))) }
-    ensures told { IsSoundKnown (known_in prepared.now)
-        → HaveOwnNames parsed.now.definitions
-        → CanRun (known_in prepared.now) prepared.now.case.case.now.runs_on
-        → CanAllRun (known_in prepared.now) parsed.now.definitions → IfErr result (
-        Tells (BodiesBreak (known_in prepared.now) prepared.now.case.case.now
-        prepared.now.case.line parsed.now.definitions)) }
+    ensures told { IsSoundKnown (known_in prepared.now) → HaveOwnNames parsed.now.definitions
+        → CanRun (known_in prepared.now) prepared.now.case.case.now.runs_on → CanAllRun
+        (known_in prepared.now) parsed.now.definitions → IfErr result (Tells (BodiesBreak (known_in
+        prepared.now) prepared.now.case.case.now prepared.now.case.line parsed.now.definitions)) }
 {
     let main = resolve_main(alloc, prepared)?;
     let functions = resolve_functions(alloc, parsed.definitions.as_slice(), prepared)?;

@@ -1,16 +1,12 @@
 //! The checks of a module, pass by pass.
 ghost use Rattle.std.specs.Prelude.{◌≡◌, ◌≤◌, IfErr, IfOk, OnOk, length, map, sum};
 ghost use Rattle.std.specs.List.{AllZip};
-ghost use Rattle.tp_checks.specs.Refused.{IsRefusedBy, Tells};
-ghost use Rattle.tp_script.specs.BrokenModules.{ModuleBreaks};
-ghost use Rattle.tp_checks.specs.Definitions.{functions};
+ghost use Rattle.tp_checks.specs.{Refused.IsRefusedBy, Refused.Tells, Definitions.functions};
 ghost use Rattle.tp_checks.specs.Prepared.{IsPreparedOf, IsWellDeclared};
-ghost use Rattle.tp_play.specs.Behaviours.{size_of_behaviour};
-ghost use Rattle.tp_play.specs.Instances.{behaviour_of};
-ghost use Rattle.tp_play.specs.Ready.{IsReady};
+ghost use Rattle.tp_script.specs.{BrokenModules.ModuleBreaks, Scopes.IsFunctionBody, Scopes.IsMainBody};
 ghost use Rattle.tp_script.specs.Instances.{AreInstances, known_in, instance_count};
-ghost use Rattle.tp_script.specs.Scopes.{IsFunctionBody, IsMainBody};
 ghost use Rattle.tp_script.specs.TestCases.{IsTestCaseOf, WellFormed};
+ghost use Rattle.tp_play.specs.{Behaviours.size_of_behaviour, Instances.behaviour_of, Ready.IsReady};
 
 use crate::bodies::resolve_bodies;
 use crate::instances::make_instances;
@@ -48,12 +44,8 @@ fn resolve_behaviours<'m>(
 }
 
 fn assemble(prepared: Prepared<'_>, behaviours: Behaviours) -> TestCase
-    requires { let all = map (behaviour_of behaviours.bodies) behaviours.instances.items in
-        IsReady (record {
-          config = prepared.config;
-          types = prepared.types;
-          behaviours = all;
-        }) }
+    requires { let all = map (behaviour_of behaviours.bodies) behaviours.instances.items in IsReady
+        (record { config = prepared.config; types = prepared.types; behaviours = all }) }
     ensures { result ≡ record {
       config = prepared.entry.config;
       types = prepared.entry.types;

@@ -1,7 +1,6 @@
 //! The behaviours of a test case's components.
 ghost use Rattle.std.specs.Prelude.{◌≡◌, ◌<◌, ◌≤◌, ◌+◌, [], Some, IfErr, IfNone, IfOk, IfSome, IsSome, OnOk, length};
-ghost use Rattle.std.specs.Prelude.{map, slice_get};
-ghost use Rattle.std.specs.Option.{option_copied};
+ghost use Rattle.std.specs.{Prelude.map, Prelude.slice_get, Option.option_copied};
 ghost use Rattle.tp_play.specs.declared.instance.WhichBody.TheVariants as which_body;
 ghost use Rattle.tp_script.specs.Behaviours.{AreReferences, Numbers};
 ghost use Rattle.tp_script.specs.Instances.{AreFew, AreInstances, IsInstance, instance_count};

@@ -1,12 +1,8 @@
 //! The names that the bodies of a module may use.
 ghost use Rattle.std.specs.Prelude.{◌≡◌, IfErr, IfOk, map, slice_get};
 ghost use Rattle.std.specs.Option.{option_copied};
-ghost use Rattle.tp_checks.specs.declared.scope.Scope.{Scope};
-ghost use Rattle.tp_checks.specs.Refused.{IsRefusedBy};
-ghost use Rattle.tp_checks.specs.Tables.{IsNumbered};
-ghost use Rattle.tp_checks.specs.Definitions.{declared};
-ghost use Rattle.tp_script.specs.Instances.{known_in};
-ghost use Rattle.tp_script.specs.Scopes.{CanRun, IsScope};
+ghost use Rattle.tp_checks.specs.{Scoping.visible_in, Refused.IsRefusedBy, Tables.IsNumbered, Definitions.declared};
+ghost use Rattle.tp_script.specs.{Instances.known_in, Scopes.CanRun, Scopes.IsScope};
 
 use std::alloc::Global;
 use tp_checks::fault::{ModuleFault, ModuleRule, refused};
@@ -44,10 +40,8 @@ pub fn scope_of<'m>(
     parameters: &'m NameSet<'m>,
     line: u32,
 ) -> Result<Scope<'m>, ModuleFault>
-    ensures scope { IfOk result (IsScope
-        (known_in prepared.now) behaviour runs_on.now parameters.now) }
-    ensures refused { IfErr result (IsRefusedBy ((scope : Scope)
-        × IsScope (known_in prepared.now) behaviour runs_on.now parameters.now scope)) }
+    ensures scope { IfOk result (λ scope. IsScope
+        (known_in prepared.now) behaviour runs_on.now parameters.now (visible_in scope)) }
     ensures unknown { IfErr result (λ _. CanRun (known_in prepared.now) runs_on.now → ⊥) }
 {
     let Some(place) = prepared.sorted.component_names.find(runs_on) else {

@@ -2,9 +2,7 @@
 ghost use Rattle.std.specs.Prelude.{◌≡◌, ◌<◌, ◌≤◌, IfErr, IfOk, OnOk, map, sum};
 ghost use Rattle.std.specs.List.{slice_index_or};
 ghost use Rattle.tp_checks.specs.Refused.{IsRefusedBy, TellsAt};
-ghost use Rattle.tp_play.specs.Sizes.{capped, size_of_body};
-ghost use Rattle.tp_play.specs.Behaviours.{size_of_behaviour};
-ghost use Rattle.tp_play.specs.Instances.{behaviour_of};
+ghost use Rattle.tp_play.specs.{Sizes.capped, Sizes.size_of_body, Behaviours.size_of_behaviour, Instances.behaviour_of};
 ghost use Rattle.tp_script.specs.Instances.{size_of_instance};
 
 use std::alloc::Global;

@@ -1,8 +1,7 @@
 -- Where there is a `system` clause, one component is added, of the type behind it.
 use Rattle.std.proofs.Common.{[]}
 use Rattle.tp_checks.specs.Components.{CanAdd, interface}
-use Rattle.tp_checks.proofs.AddableComponents.{interface_is, only_one}
-use Rattle.tp_checks.proofs.ModuleRefusalPropagation.{handed_on}
+use Rattle.tp_checks.proofs.{AddableComponents.interface_is, AddableComponents.only_one, ModuleRefusalPropagation.handed_on}
 use Rattle.tp_checks.proofs.CreatedComponentGrowth.{adds_more, adds_none}
 use Rattle.tp_checks.proofs.components.add_interface.Goals as goal
 

@@ -1,10 +1,7 @@
 -- Why a component variable is refused.
-use Rattle.tp_checks.specs.Components.{variable_name}
+use Rattle.tp_checks.specs.{Components.variable_name, Tables.AreDistinct, BrokenSetup.many, BrokenSetup.other_type}
 use Rattle.std.proofs.Common.{◌≡◌, ◌++◌, ◌∷◌, [], ◌∙◌, Bool, true, false, Contains, ap, arith, length, not, refl, subst, sym, true≢false}
-use Rattle.std.proofs.lemmas.List.{length_push}
-use Rattle.std.proofs.lemmas.Slice.Eq.{bytes_eq-Decides}
-use Rattle.tp_checks.specs.Tables.{AreDistinct}
-use Rattle.tp_checks.specs.BrokenSetup.{many, other_type}
+use Rattle.std.proofs.{lemmas.List.length_push, lemmas.Slice.Eq.bytes_eq-Decides}
 use Rattle.tp_checks.proofs.DistinctNamesInParts.{repeated}
 use Rattle.tp_checks.proofs.components.check_variable.Goals as goal
 

@@ -1,8 +1,6 @@
 -- Why the component of a `var` is refused.
 use Rattle.std.proofs.Common.{arith}
-use Rattle.tp_checks.specs.Refused.{TellsAt}
-use Rattle.tp_checks.specs.Additions.{HasRoomForVariables}
-use Rattle.tp_checks.specs.BrokenSetup.{CreationBreaks}
+use Rattle.tp_checks.specs.{Refused.TellsAt, Additions.HasRoomForVariables, BrokenSetup.CreationBreaks}
 use Rattle.tp_checks.proofs.ModuleFaultPropagation.{handed}
 use Rattle.tp_checks.proofs.components.create.Goals as goal
 

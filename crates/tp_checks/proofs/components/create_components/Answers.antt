@@ -1,12 +1,10 @@
 -- A statement that makes no component leaves all as it is, and the next `var` adds a sound one.
 use Rattle.std.proofs.Common.{◌+◌, ◌++◌, ◌∷◌, [], ◌∙◌, ap, arith, drop, map, subst, sym, take}
 use Rattle.std.proofs.lemmas.List.{map_push, take-append-drop}
-use Rattle.tp_checks.proofs.AddableComponents.{create_part}
-use Rattle.tp_checks.proofs.StartLookups.{creation_among}
-use Rattle.tp_checks.proofs.ModuleRefusalPropagation.{breaks_part}
-use Rattle.tp_checks.specs.Components.{AddsAll, created, creations, variable_name}
+use Rattle.tp_checks.proofs.{AddableComponents.create_part, StartLookups.creation_among, ModuleRefusalPropagation.breaks_part}
 use Rattle.tp_checks.proofs.CreatedComponentGrowth.{adds_more, no_creation, one_creation, sound_more}
 use Rattle.tp_checks.proofs.CreationFaultsTold.{room_more, stops_told}
+use Rattle.tp_checks.specs.Components.{AddsAll, created, creations, variable_name}
 use Rattle.tp_checks.proofs.components.create_components.Goals as goal
 
 pub loop-i-preserved-in_default : goal.loop-i-preserved-in_default

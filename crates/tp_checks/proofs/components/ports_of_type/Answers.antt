@@ -1,14 +1,9 @@
 -- The component type at the place of the name has that name, and its ports are those declared.
 use Rattle.std.proofs.Common.{inr, ◌≡◌, ◌++◌, ◌∙◌, Some, ap, map, slice_get, sym}
-use Rattle.tp_checks.specs.Definitions.{declared_ports}
-use Rattle.tp_checks.specs.Sorted.{component_types_in}
-use Rattle.tp_checks.proofs.NameSetLookups.{named_at}
+use Rattle.tp_checks.specs.{Definitions.declared_ports, Sorted.component_types_in, Tables.IsNumbered}
+use Rattle.tp_checks.proofs.{NameSetLookups.named_at, NameSetLookups.place_unknown, ModuleRefusalPropagation.handed_on}
+use Rattle.tp_checks.proofs.{StartLookups.all_got, StartLookups.item_there, StartLookups.named_there, ListPrefixGrowth.contains_at}
 use Rattle.tp_tree.specs.declared.tree.ComponentType.{ComponentType}
-use Rattle.tp_checks.specs.Tables.{IsNumbered}
-use Rattle.tp_checks.proofs.NameSetLookups.{place_unknown}
-use Rattle.tp_checks.proofs.StartLookups.{all_got, item_there, named_there}
-use Rattle.tp_checks.proofs.ModuleRefusalPropagation.{handed_on}
-use Rattle.tp_checks.proofs.ListPrefixGrowth.{contains_at}
 use Rattle.tp_checks.proofs.components.ports_of_type.Goals as goal
 
 pub returns-clause-ports : goal.returns-clause-ports

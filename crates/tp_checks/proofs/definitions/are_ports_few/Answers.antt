@@ -1,8 +1,7 @@
 -- Where a declaration has no room behind those before it, all the ports are more than 64.
 use Rattle.std.proofs.Common.{◌+◌, ◌≤◌, ◌<◌, ◌≡◌, ℕ, List, arith, get_or, length, map, refl, subst, sym, take}
+use Rattle.std.proofs.{lemmas.List.length-map, lemmas.List.Folds.length-flat_map-take}
 use Rattle.std.specs.List.{flat_map}
-use Rattle.std.proofs.lemmas.List.{length-map}
-use Rattle.std.proofs.lemmas.List.Folds.{length-flat_map-take}
 use Rattle.tp_tree.specs.declared.tree.PortDeclaration.{PortDeclaration}
 use Rattle.tp_checks.specs.Definitions.{declared, declared_ports}
 use Rattle.tp_checks.proofs.definitions.are_ports_few.Goals as goal

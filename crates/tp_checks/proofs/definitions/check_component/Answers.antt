@@ -1,11 +1,9 @@
 -- A component type is refused for an unknown port type first, and else for too many ports.
 use Rattle.std.proofs.Common.{◌≡◌, ◌≤◌, ◌∙◌, ℕ, Bool, true, false, List, arith, inl, inr, length, sym}
-use Rattle.tp_checks.specs.declared.fault.ModuleRule.TheVariants.{Unknown, Limit}
-use Rattle.tp_checks.specs.declared.fault.ModuleFault.{ModuleFault}
+use Rattle.tp_checks.specs.declared.fault.{ModuleRule.TheVariants.Unknown, ModuleRule.TheVariants.Limit, ModuleFault.ModuleFault}
 use Rattle.tp_checks.specs.declared.fault.ModuleFault.TheVariants.{Refused}
 use Rattle.tp_tree.specs.declared.tree.ComponentType.{ComponentType}
-use Rattle.tp_checks.specs.Definitions.{declared_ports}
-use Rattle.tp_checks.specs.Rules.{IsComponentFault, has_known_ports}
+use Rattle.tp_checks.specs.{Definitions.declared_ports, Rules.IsComponentFault, Rules.has_known_ports}
 use Rattle.tp_checks.proofs.definitions.check_component.Goals as goal
 
 module _ (names : List (List ℕ)) (x : ComponentType) (line : ℕ) (fault : ModuleFault) where

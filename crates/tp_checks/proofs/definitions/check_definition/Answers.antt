@@ -1,13 +1,9 @@
 -- A component type and a function that were looked at obey the rules on definitions.
-use Rattle.std.proofs.Common.{◌≡◌, ◌∙◌, true}
-use Rattle.std.proofs.lemmas.Result.{IfErr-weaker}
-use Rattle.tp_checks.specs.Sorted.{IsSoundIn}
+use Rattle.std.proofs.{Common.◌≡◌, Common.◌∙◌, Common.true, Common.subst, Common.sym, lemmas.Result.IfErr-weaker}
+use Rattle.tp_checks.specs.{Sorted.IsSoundIn, Refused.TellsAt, BrokenDefinitions.DefinitionBreaks}
 use Rattle.tp_checks.proofs.SoundDefinitionRules.{sound_component, sound_function, unsound_component, unsound_port}
-use Rattle.std.proofs.Common.{subst, sym}
-use Rattle.tp_checks.specs.Refused.{TellsAt}
-use Rattle.tp_tree.specs.declared.tree.Defined.{Defined}
-use Rattle.tp_checks.specs.BrokenDefinitions.{DefinitionBreaks}
 use Rattle.tp_checks.proofs.ModuleFaultPropagation.{handed}
+use Rattle.tp_tree.specs.declared.tree.Defined.{Defined}
 use Rattle.tp_checks.proofs.definitions.check_definition.Goals as goal
 
 pub returns-in_ok-check_component-in-Component-clause-sound : goal.returns-in_ok-check_component-in-Component-clause-sound

@@ -1,12 +1,8 @@
 -- The next definition obeys the rules, and at the end each does.
 use Rattle.std.proofs.Common.{arith}
-use Rattle.tp_checks.specs.Sorted.{AreSound, IsSoundIn}
-use Rattle.tp_checks.proofs.ModuleRefusalPropagation.{all_at}
-use Rattle.tp_checks.proofs.ListPrefixGrowth.{all_more, all_whole}
-use Rattle.tp_checks.specs.Refused.{Tells}
-use Rattle.tp_checks.specs.BrokenDefinitions.{DefinitionsBreak}
-use Rattle.tp_checks.proofs.DefinitionFaultsTold.{definition_among}
-use Rattle.tp_checks.proofs.ModuleFaultPropagation.{handed}
+use Rattle.tp_checks.specs.{Sorted.AreSound, Sorted.IsSoundIn, Refused.Tells, BrokenDefinitions.DefinitionsBreak}
+use Rattle.tp_checks.proofs.{ModuleRefusalPropagation.all_at, ListPrefixGrowth.all_more, ListPrefixGrowth.all_whole}
+use Rattle.tp_checks.proofs.{DefinitionFaultsTold.definition_among, ModuleFaultPropagation.handed}
 use Rattle.tp_checks.proofs.definitions.check_definitions.Goals as goal
 
 pub loop-definition-preserved : goal.loop-definition-preserved

@@ -1,11 +1,9 @@
 -- The type of a parameter is unknown, and why a function is refused.
 use Rattle.std.proofs.Common.{◌∙◌, refl, sym, true≢false}
-use Rattle.tp_checks.specs.Rules.{IsSoundFunction}
-use Rattle.tp_checks.proofs.KnownNamesByLookup.{each_known, each_there}
-use Rattle.tp_checks.specs.Refused.{TellsAt}
-use Rattle.tp_tree.specs.declared.tree.Defined.TheVariants as defined
+use Rattle.tp_checks.specs.{Rules.IsSoundFunction, Refused.TellsAt}
 use Rattle.tp_checks.specs.BrokenDefinitions.{DefinitionBreaks, no_system, unknown_component_type}
-use Rattle.tp_checks.proofs.ModuleFaultPropagation.{handed}
+use Rattle.tp_checks.proofs.{KnownNamesByLookup.each_known, KnownNamesByLookup.each_there, ModuleFaultPropagation.handed}
+use Rattle.tp_tree.specs.declared.tree.Defined.TheVariants as defined
 use Rattle.tp_checks.proofs.definitions.check_function.Goals as goal
 
 pub returns-in_err-known-2-clause-refused : goal.returns-in_err-known-2-clause-refused

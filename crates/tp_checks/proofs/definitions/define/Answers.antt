@@ -1,11 +1,7 @@
 -- What is made of definitions that obey the rules is refused only because memory ran out.
-use Rattle.tp_checks.specs.Rules.{HasUniqueNames}
-use Rattle.tp_checks.specs.Sorted.{HasSoundDefinitions}
-use Rattle.tp_checks.proofs.SoundSortedDefinitions.{sorted_sound}
-use Rattle.tp_checks.proofs.ModuleRefusalPropagation.{handed_on}
-use Rattle.tp_checks.specs.Refused.{Tells}
+use Rattle.tp_checks.specs.{Rules.HasUniqueNames, Sorted.HasSoundDefinitions, Sorted.IsSortedSound, Refused.Tells}
 use Rattle.tp_checks.specs.BrokenDefinitions.{DefinitionsOfBreak}
-use Rattle.tp_checks.specs.Sorted.{IsSortedSound}
+use Rattle.tp_checks.proofs.{SoundSortedDefinitions.sorted_sound, ModuleRefusalPropagation.handed_on}
 use Rattle.tp_checks.proofs.ModuleFaultPropagation.{handed, memory_left, tells_memory}
 use Rattle.tp_checks.proofs.definitions.define.Goals as goal
 

@@ -1,13 +1,9 @@
 -- The names that were sorted out are the module's, so its definitions obey the rules.
 use Rattle.std.proofs.Common.{inr, subst, sym}
-use Rattle.tp_checks.specs.Definitions.{type_names, port_type_names, component_type_names}
-use Rattle.tp_checks.specs.Rules.{HasUniqueNames}
-use Rattle.tp_checks.specs.Sorted.{AreSound, HasSoundDefinitions}
-use Rattle.tp_checks.proofs.ModuleRefusalPropagation.{handed_on}
-use Rattle.tp_checks.proofs.SoundDefinitionRules.{sound_all}
-use Rattle.tp_checks.specs.Refused.{Tells}
+use Rattle.tp_checks.specs.{Definitions.type_names, Definitions.port_type_names, Definitions.component_type_names, Rules.HasUniqueNames}
+use Rattle.tp_checks.specs.{Sorted.AreSound, Sorted.HasSoundDefinitions, Refused.Tells}
 use Rattle.tp_checks.specs.BrokenDefinitions.{DefinitionsBreak, DefinitionsOfBreak}
-use Rattle.tp_checks.proofs.DefinitionFaultsTold.{told_all}
+use Rattle.tp_checks.proofs.{ModuleRefusalPropagation.handed_on, SoundDefinitionRules.sound_all, DefinitionFaultsTold.told_all}
 use Rattle.tp_checks.proofs.ModuleFaultPropagation.{handed, memory_left, tells_memory}
 use Rattle.tp_checks.proofs.definitions.sort_sound.Goals as goal
 

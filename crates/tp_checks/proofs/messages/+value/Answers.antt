@@ -1,20 +1,13 @@
 -- The next value stands for what is made of it, and at the end each field has one.
-use Rattle.std.proofs.Common.{◌≡◌, ◌≤◌, length, arith, ◌∙◌, map, Some, rules, subst, take, All}
-use Rattle.std.proofs.lemmas.List.Elements.{All-push}
-use Rattle.std.proofs.lemmas.List.{length-set, length-map}
+use Rattle.std.proofs.{Common.◌≡◌, Common.arith, Common.◌∙◌, Common.map, Common.Some, Common.rules, lemmas.List.length-map}
 use Rattle.tp_value.specs.declared.types.TypeDef.TheVariants as def
 use Rattle.tp_checks.specs.declared.fault.ModuleRule.TheVariants as rule
-use Rattle.tp_checks.specs.Named.{texts}
-use Rattle.tp_checks.specs.Placing.{IsPlacing}
-use Rattle.tp_checks.specs.Messages.{IsValue, no_name, one_name_more, AreNamed}
+use Rattle.tp_checks.specs.{Messages.no_name, Messages.one_name_more, Messages.AreNamed, BrokenValues.IsValueOf, Scoping.stands_here}
 use Rattle.tp_checks.specs.BrokenValues as b
-use Rattle.tp_checks.specs.BrokenValues.{IsEntry}
-use Rattle.tp_checks.proofs.EntriesInDeclaredOrder.{place_below, placed, placed_entries, filled_more, all_filled, in_order}
-use Rattle.tp_checks.proofs.ListPrefixGrowth.{pushed}
-use Rattle.tp_checks.proofs.RuleFaultPropagation.{tells_at, told_rule}
-use Rattle.tp_checks.proofs.BrokenValueRules.{record_behind}
-use Rattle.tp_checks.proofs.messages.+value.Goals as goal
+use Rattle.tp_checks.proofs.EntriesInDeclaredOrder.{place_below, placed, placed_entries, entered_more, in_order}
+use Rattle.tp_checks.proofs.{RuleFaultPropagation.tells_at, RuleFaultPropagation.told_rule, BrokenValueRules.record_behind}
 use Rattle.tp_checks.proofs.messages.+value.Goals.{resolve_value-in_default-via-in-Some+in_default, resolve_value-in_default-via-in_default}
+use Rattle.tp_checks.proofs.messages.+value.Goals as goal
 
 pub resolve_named-index_mut-requires : goal.resolve_named-index_mut-requires
 resolve_named-index_mut-requires t c = omega (arith, c.in-Some.ensures.lookup.3.0, c.loop-index.invariant.as_many, c.loop-index.made.ok.0)
@@ -28,74 +21,36 @@ resolve_named-loop-index-init t c = record {
 
 pub resolve_named-loop-index-preserved : goal.resolve_named-loop-index-preserved
 resolve_named-loop-index-preserved t c =
-    let i = c.loop-index.invariant in
-    let placing : IsPlacing c.args.fields.now (map (λ x. x.name) c.args.entries.now) c.in_ok-places.places.items =
-    c.in_ok-places.ensures.placed in
-    let at =
-    placed (λ x. x.name) (λ f x. IsValue c.args.context.now.scope.now.types.now (texts c.args.context.now.turns.now) f.ty x.value)
-    c.args.entries.now c.args.fields.now placing c.loop-index.index c.index-place.result.now c.in-Some.field.now c.index-entries-index.result (omega arith)
-    c.index-place.ensures c.in-Some.ensures.lookup.3.0 c.in-Some.ensures.lookup.1 c.index-entries-index.is in
-    let fits : IsEntry c.args.context.now.scope.now.types.now (texts c.args.context.now.turns.now) c.args.fields.now c.index-entries-index.result =
-    record {
-      place = c.index-place.result.now;
-      field = c.in-Some.field.now;
-      made = c.in_ok-one.one;
-      declared = at.is_field;
-      same_name = at.same;
-      fits = c.in_ok-one.ensures.stands;
-    } in
-    record {
-      fit =
-          subst (All (IsEntry c.args.context.now.scope.now.types.now (texts c.args.context.now.turns.now) c.args.fields.now))
-          (pushed c.args.entries.now c.loop-index.index c.index-entries-index.result (omega arith) c.index-entries-index.is)
-          (All-push (IsEntry c.args.context.now.scope.now.types.now (texts c.args.context.now.turns.now) c.args.fields.now) (take c.loop-index.index c.args.entries.now) c.index-entries-index.result i.fit fits);
-      as_many = length-set c.loop-index.made.items c.index-place.result.now c.in_ok-one.one ∙ i.as_many;
-      filled =
-          filled_more (λ x. x.name) (λ f x. IsValue c.args.context.now.scope.now.types.now (texts c.args.context.now.turns.now) f.ty x.value)
-          c.args.entries.now c.args.fields.now
-          c.in_ok-places.places.items c.loop-index.index c.loop-index.made.items c.index-place.result.now c.in_ok-one.one c.in-Some.field.now
-          c.index-entries-index.result at i.as_many c.in_ok-one.ensures.stands i.filled;
-    }
+    entered_more (λ x. x.name) (stands_here IsValueOf c.args.context.now) c.args.entries.now c.args.fields.now c.loop-index.index c.loop-index.made.items
+    c.index-place.result.now c.in_ok-one.one c.in-Some.field.now c.index-entries-index.result
+    (placed (λ x. x.name) (stands_here IsValueOf c.args.context.now) c.args.entries.now c.args.fields.now c.in_ok-places.ensures.placed c.loop-index.index
+    c.index-place.result.now c.in-Some.field.now c.index-entries-index.result (omega arith) c.index-place.ensures c.in-Some.ensures.lookup.3.0
+    c.in-Some.ensures.lookup.1 c.index-entries-index.is)
+    c.in_ok-one.ensures.stands c.loop-index.invariant
 
 pub resolve_named-returns-clause-named : goal.resolve_named-returns-clause-named
 resolve_named-returns-clause-named t c =
-    let i = c.loop-index.invariant in
-    let placing : IsPlacing c.args.fields.now (map (λ x. x.name) c.args.entries.now) c.in_ok-places.places.items =
-    c.in_ok-places.ensures.placed in
-    let end : length c.in_ok-places.places.items ≤ c.loop-index.index =
-    omega (arith, placing.as_many, length-map c.args.entries.now (λ x. x.name)) in
-    let types = c.args.context.now.scope.now.types.now in
-    let turns = texts c.args.context.now.turns.now in
-    rw c.from_vec.ensures (in_order (λ x. x.name) (λ f x. IsValue types turns f.ty x.value) c.args.entries.now c.args.fields.now
-    (AreNamed types turns c.args.entries.now) (no_name c.args.entries.now) (λ fs ws f j x y. one_name_more c.args.entries.now fs ws f j x y)
-    c.loop-index.made.items i.as_many
-    (all_filled (λ x. x.name) (λ f x. IsValue types turns f.ty x.value) c.args.entries.now c.args.fields.now c.in_ok-places.places.items
-    c.loop-index.index c.loop-index.made.items placing end i.filled))
+    let made = stands_here AreNamed c.args.context.now c.args.entries.now in
+    rw c.from_vec.ensures (in_order (λ x. x.name) (stands_here IsValueOf c.args.context.now) c.args.entries.now c.args.fields.now made
+    (no_name c.args.entries.now) (λ fs ws f j x y. one_name_more c.args.entries.now fs ws f j x y) c.loop-index.index c.loop-index.made.items
+    c.in_ok-places.ensures.placed (omega arith) c.loop-index.invariant)
 
 pub resolve_named-returns-in_default-clause-told : goal.resolve_named-returns-in_default-clause-told
 resolve_named-returns-in_default-clause-told t c =
-    let placing : IsPlacing c.args.fields.now (map (λ x. x.name) c.args.entries.now) c.in_ok-places.places.items =
-    c.in_ok-places.ensures.placed in
-    absurd (omega (
-      arith,
-      c.in_default.ensures.lookup.3,
-      c.index-place.ensures,
-      place_below c.args.fields.now (map (λ x. x.name) c.args.entries.now) c.in_ok-places.places.items placing c.loop-index.index
-          c.index-place.result.now (omega (arith, placing.as_many, length-map c.args.entries.now (λ x. x.name))),
-    ))
+    let below = place_below c.args.fields.now (map (λ x. x.name) c.args.entries.now) c.in_ok-places.places.items c.in_ok-places.ensures.placed
+    c.loop-index.index c.index-place.result.now (omega (arith, length-map c.args.entries.now (λ x. x.name))) c.index-place.ensures in
+    absurd (omega (arith, c.in_default.ensures.lookup.3, below))
 
 pub resolve_named-returns-in_err-one-clause-told : goal.resolve_named-returns-in_err-one-clause-told
 resolve_named-returns-in_err-one-clause-told t c = λ sound apart.
-    let placing : IsPlacing c.args.fields.now (map (λ x. x.name) c.args.entries.now) c.in_ok-places.places.items =
-    c.in_ok-places.ensures.placed in
     let at =
-    placed (λ x. x.name) (λ f x. IsValue c.args.context.now.scope.now.types.now (texts c.args.context.now.turns.now) f.ty x.value)
-    c.args.entries.now c.args.fields.now placing c.loop-index.index c.index-place.result.now c.in-Some.field.now c.index-entries-index.result (omega arith)
-    c.index-place.ensures c.in-Some.ensures.lookup.3.0 c.in-Some.ensures.lookup.1 c.index-entries-index.is in
+    placed (λ x. x.name) (stands_here IsValueOf c.args.context.now) c.args.entries.now c.args.fields.now c.in_ok-places.ensures.placed c.loop-index.index
+    c.index-place.result.now c.in-Some.field.now c.index-entries-index.result (omega arith) c.index-place.ensures c.in-Some.ensures.lookup.3.0
+    c.in-Some.ensures.lookup.1 c.index-entries-index.is in
     tells_at _ _ _ c.from_residual-in_err-one.result c.in_err-one.field-0.0 c.from_residual-in_err-one.ensures.1
     (λ r broken. b.entry c.args.fields.now c.args.entries.now c.loop-index.index c.index-place.result.now c.in-Some.field.now c.index-entries-index.result r
-    (placed_entries c.args.fields.now (map (λ x. x.name) c.args.entries.now) c.in_ok-places.places.items placing) c.loop-index.invariant.fit
-    at.is_entry at.is_field at.same broken)
+    (placed_entries c.args.fields.now (map (λ x. x.name) c.args.entries.now) c.in_ok-places.places.items c.in_ok-places.ensures.placed)
+    c.loop-index.invariant.fit at.is_entry at.is_field at.same broken)
     (c.in_err-one.ensures.told sound)
 
 pub resolve_value-returns-in_default-clause-told : goal.resolve_value-returns-in_default-clause-told

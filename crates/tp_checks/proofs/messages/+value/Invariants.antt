@@ -1,9 +1,7 @@
 -- What the values so far stand for is made, each in its turn or at the place of its field.
-use Rattle.std.proofs.Common.{◌≡◌, length, take, All}
-use Rattle.tp_checks.specs.Named.{texts}
-use Rattle.tp_checks.specs.Messages.{AreElements, AreFields, IsValue}
-use Rattle.tp_checks.specs.BrokenValues.{IsEntry}
-use Rattle.tp_checks.proofs.EntriesInDeclaredOrder.{Filled}
+use Rattle.std.proofs.Common.{take}
+use Rattle.tp_checks.specs.{Named.texts, Messages.AreElements, Messages.AreFields, BrokenValues.IsValueOf, Scoping.stands_here}
+use Rattle.tp_checks.proofs.EntriesInDeclaredOrder.{Entered}
 use Rattle.tp_checks.proofs.messages.+value.Given as goal
 
 abbrev pub invariant-resolve_elements-loop-value : goal.invariant-resolve_elements-loop-value
@@ -14,9 +12,5 @@ invariant-resolve_fields-loop-index l =
     AreFields l.context.scope.now.types.now (texts l.context.turns.now) (take l.index l.fields) (take l.index l.values) l.made
 
 abbrev pub invariant-resolve_named-loop-index : goal.invariant-resolve_named-loop-index
-invariant-resolve_named-loop-index l = record {
-  as_many : length l.made.items ≡ length l.fields;
-  filled : Filled (λ x. x.name) (λ f x. IsValue l.context.scope.now.types.now (texts l.context.turns.now) f.ty x.value)
-      l.entries l.fields l.places.items l.index l.made.items;
-  fit : All (IsEntry l.context.scope.now.types.now (texts l.context.turns.now) l.fields) (take l.index l.entries);
-}
+invariant-resolve_named-loop-index l =
+    Entered (λ x. x.name) (stands_here IsValueOf l.context) l.entries l.fields l.places.items l.index l.made.items

@@ -1,6 +1,5 @@
 -- The next name is the one that is looked for or is not, and after the last there is none.
-use Rattle.std.proofs.Common.{arith, sym, ◌∙◌}
-use Rattle.std.proofs.lemmas.Option.{slice_get-get_or}
+use Rattle.std.proofs.{Common.arith, Common.sym, Common.◌∙◌, lemmas.Option.slice_get-get_or}
 use Rattle.tp_checks.proofs.NameSearchGrowth.{one_more, found, nowhere}
 use Rattle.tp_checks.proofs.name.find.Goals as goal
 

@@ -1,12 +1,9 @@
 -- The next entry takes the free place of its name, and at the end each field has an entry.
 use Rattle.std.proofs.Common.{◌≡◌, ◌<◌, refl, arith, ap, sym, ◌∙◌, slice_get, length, option_map, map, true, true≢false, subst, Some}
-use Rattle.std.proofs.lemmas.Bool.{OnFalse_at}
-use Rattle.std.proofs.lemmas.Option.{slice_get-map, slice_get_read, slice_get_within}
+use Rattle.std.proofs.{lemmas.Bool.OnFalse_at, lemmas.Option.slice_get-map, lemmas.Option.slice_get_read, lemmas.Option.slice_get_within}
 use Rattle.std.proofs.lemmas.List.{length-map, length-set}
-use Rattle.tp_checks.specs.Named.{IsAbsent}
-use Rattle.tp_checks.specs.Placing.{field_names}
-use Rattle.tp_checks.proofs.PlacedEntriesGrowth.{pairs_more, taken_more}
-use Rattle.tp_checks.proofs.RuleFaultPropagation.{told_rule}
+use Rattle.tp_checks.specs.{Named.IsAbsent, Placing.field_names}
+use Rattle.tp_checks.proofs.{PlacedEntriesGrowth.pairs_more, PlacedEntriesGrowth.taken_more, RuleFaultPropagation.told_rule}
 use Rattle.tp_checks.proofs.NoFieldEntryRefused.{placed_more, no_unknown, no_second, none_missing}
 use Rattle.tp_checks.proofs.placing.field_places.Goals as goal
 

@@ -1,8 +1,7 @@
 -- Each entry so far stands at a field of its name, and each place that is taken has an entry.
 use Rattle.std.proofs.Common.{◌≡◌, ℕ, true, slice_get, Some, length, map, Contains}
 use Rattle.std.specs.Prelude.{vec_capacity}
-use Rattle.tp_checks.specs.Tables.{AreDistinct}
-use Rattle.tp_checks.specs.Placing.{IsTable, field_names}
+use Rattle.tp_checks.specs.{Tables.AreDistinct, Placing.IsTable, Placing.field_names}
 use Rattle.tp_checks.proofs.placing.field_places.Given as goal
 
 abbrev pub invariant-loop-index : goal.invariant-loop-index

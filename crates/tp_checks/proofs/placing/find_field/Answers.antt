@@ -1,11 +1,10 @@
 -- The table holds the names of all fields where they are looked for, so a name that isn't in it is that of no field.
 use Rattle.std.proofs.Common.{◌⊎◌, inl, inr, ◌≡◌, ℕ, List, [], map, length, Some, slice_get, ap, sym, ◌∙◌, subst, true≢false}
 use Rattle.std.proofs.lemmas.List.{length-map}
-use Rattle.tp_checks.specs.Named.{IsAbsent}
-use Rattle.tp_checks.specs.Placing.{field_names}
+use Rattle.tp_checks.specs.{Named.IsAbsent, Placing.field_names}
 use Rattle.tp_checks.proofs.FieldNameTables.{found_place, found_none}
-use Rattle.tp_checks.proofs.placing.find_field.Goals as goal
 use Rattle.tp_checks.proofs.placing.find_field.Goals.{then-is_empty+in_ok-list_names, else-is_empty}
+use Rattle.tp_checks.proofs.placing.find_field.Goals as goal
 
 -- a table that isn't empty holds all
 all_listed : {K : Type 0} (v : K → List ℕ) (keys : List K) (names : List (List ℕ)) → (length keys ≡ 0 → ⊥) → (map v keys ≡ []) ⊎ (map v keys ≡ names)

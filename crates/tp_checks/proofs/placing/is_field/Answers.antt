@@ -1,7 +1,6 @@
 -- A field has this name where its name and this one have the same bytes.
 use Rattle.std.proofs.Common.{◌≡◌, length, slice_get, Some, option_map, refl, ap, sym, ◌∙◌}
-use Rattle.std.proofs.lemmas.Option.{slice_get_read, slice_get-map, same_Some}
-use Rattle.std.proofs.lemmas.Slice.Eq.{bytes_eq-Decides}
+use Rattle.std.proofs.{lemmas.Option.slice_get_read, lemmas.Option.slice_get-map, lemmas.Option.same_Some, lemmas.Slice.Eq.bytes_eq-Decides}
 use Rattle.tp_checks.specs.Placing.{field_names}
 use Rattle.tp_checks.proofs.placing.is_field.Goals as goal
 

@@ -1,7 +1,6 @@
 -- The names of the fields so far are listed.
 use Rattle.std.proofs.Common.{◌≡◌, map, take}
-use Rattle.tp_checks.specs.Tables.{AreDistinct}
-use Rattle.tp_checks.specs.Placing.{field_names}
+use Rattle.tp_checks.specs.{Tables.AreDistinct, Placing.field_names}
 use Rattle.tp_checks.proofs.placing.list_names.Given as goal
 
 abbrev pub invariant-loop-field : goal.invariant-loop-field

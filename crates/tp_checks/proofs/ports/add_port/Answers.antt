@@ -1,7 +1,6 @@
 -- A port whose name is new goes behind the others, and receives and sends what its type does.
 use Rattle.std.proofs.Common.{◌++◌, ◌∷◌, [], ◌∙◌, Contains, ap, inr, map, string_bytes, subst, sym}
-use Rattle.tp_config.specs.Setup.{PortDecl}
-use Rattle.tp_config.specs.Shape.{decl_of, ports_of}
+use Rattle.tp_config.specs.{Setup.PortDecl, Shape.decl_of, Shape.ports_of}
 use Rattle.tp_checks.specs.Definitions.{declared}
 use Rattle.tp_checks.proofs.DistinctNamesInParts.{repeated}
 use Rattle.tp_checks.proofs.ComponentTypePortGrowth.{is_there, names_declared, names_in, not_there, port_added, same_declaration}

@@ -1,11 +1,8 @@
 -- A port that is refused is among all of them.
 use Rattle.std.proofs.Common.{◌+◌, ◌++◌, ◌∙◌, ap, arith, drop, map, subst, take}
 use Rattle.std.proofs.lemmas.List.{map-append}
-use Rattle.tp_config.specs.Setup.{PortDecl}
-use Rattle.tp_config.specs.Shape.{ports_of}
-use Rattle.tp_checks.specs.Tables.{AreDistinct}
-use Rattle.tp_checks.specs.Definitions.{declared}
-use Rattle.tp_checks.specs.Resolved.{port_decl}
+use Rattle.tp_config.specs.{Setup.PortDecl, Shape.ports_of}
+use Rattle.tp_checks.specs.{Tables.AreDistinct, Definitions.declared, Resolved.port_decl}
 use Rattle.tp_checks.proofs.DistinctNamesInParts.{distinct_first, map_twice}
 use Rattle.tp_checks.proofs.ModuleRefusalPropagation.{handed_on, mapped_behind}
 use Rattle.tp_checks.proofs.ports.add_ports.Goals as goal

@@ -1,17 +1,12 @@
 -- At first there are no ports, and each declaration adds its own, of the type that it names.
 use Rattle.std.proofs.Common.{◌≡◌, ◌∙◌, ◌+◌, ◌++◌, [], Contains, ap, arith, drop, inr, length, map, refl, subst, sym, take, true≢false}
-use Rattle.std.specs.List.{AllZip}
 use Rattle.std.proofs.lemmas.List.{length-map, take_all}
-use Rattle.tp_config.specs.Setup.{PortDecl}
-use Rattle.tp_config.specs.Shape.{decl_of, ports_of}
-use Rattle.tp_checks.specs.Tables.{AreDistinct}
+use Rattle.std.specs.List.{AllZip}
+use Rattle.tp_config.specs.{Setup.PortDecl, Shape.decl_of, Shape.ports_of}
+use Rattle.tp_checks.specs.{Tables.AreDistinct, Definitions.declared, Definitions.declared_ports, Resolved.IsPortDecl, Resolved.port_decl}
+use Rattle.tp_checks.specs.{Sorted.port_types_in, Rules.IsSoundComponent}
 use Rattle.tp_tree.specs.declared.tree.PortDeclaration.{PortDeclaration}
-use Rattle.tp_checks.specs.Definitions.{declared, declared_ports}
-use Rattle.tp_checks.specs.Resolved.{IsPortDecl, port_decl}
-use Rattle.tp_checks.specs.Sorted.{port_types_in}
-use Rattle.tp_checks.specs.Rules.{IsSoundComponent}
-use Rattle.tp_checks.proofs.PortTypesAsDeclared.{ports_named}
-use Rattle.tp_checks.proofs.DistinctNamesInParts.{distinct_first}
+use Rattle.tp_checks.proofs.{PortTypesAsDeclared.ports_named, DistinctNamesInParts.distinct_first}
 use Rattle.tp_checks.proofs.ModuleRefusalPropagation.{all_at, flat_behind, handed_on}
 use Rattle.tp_checks.proofs.ListPrefixGrowth.{flat_more, zip_append, zip_maps}
 use Rattle.tp_checks.proofs.ports.make_component.Goals as goal

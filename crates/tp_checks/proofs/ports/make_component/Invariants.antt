@@ -2,8 +2,7 @@
 use Rattle.std.proofs.Common.{take}
 use Rattle.std.specs.List.{AllZip}
 use Rattle.tp_config.specs.Shape.{ports_of}
-use Rattle.tp_checks.specs.Resolved.{IsPortDecl, port_list}
-use Rattle.tp_checks.specs.Sorted.{port_types_in}
+use Rattle.tp_checks.specs.{Resolved.IsPortDecl, Resolved.port_list, Sorted.port_types_in}
 use Rattle.tp_checks.proofs.ports.make_component.Given as goal
 
 abbrev pub invariant-loop-declaration : goal.invariant-loop-declaration

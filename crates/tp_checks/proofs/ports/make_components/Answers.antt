@@ -1,13 +1,8 @@
 -- The next component type has its ports, of which there are at most 64.
-use Rattle.std.proofs.Common.{◌≤◌, All, arith, length}
-use Rattle.tp_checks.specs.Resolved.{IsComponentType}
-use Rattle.tp_checks.specs.Sorted.{port_types_in}
-use Rattle.tp_checks.specs.Rules.{IsSoundComponent}
-use Rattle.tp_checks.specs.Sorted.{component_types_in}
-use Rattle.tp_checks.proofs.ModuleRefusalPropagation.{all_at_map, handed_on}
-use Rattle.tp_checks.proofs.ListPrefixGrowth.{zip_map_more}
+use Rattle.std.proofs.{Common.◌≤◌, Common.All, Common.arith, Common.length, lemmas.List.Elements.All-push}
+use Rattle.tp_checks.specs.{Resolved.IsComponentType, Sorted.port_types_in, Sorted.component_types_in, Rules.IsSoundComponent}
+use Rattle.tp_checks.proofs.{ModuleRefusalPropagation.all_at_map, ModuleRefusalPropagation.handed_on, ListPrefixGrowth.zip_map_more}
 use Rattle.tp_checks.proofs.ports.make_components.Goals as goal
-use Rattle.std.proofs.lemmas.List.Elements.{All-push}
 
 pub loop-component-preserved : goal.loop-component-preserved
 loop-component-preserved c =

@@ -1,8 +1,7 @@
 -- The component types so far are made, each with at most 64 ports.
 use Rattle.std.proofs.Common.{◌≤◌, All, length, map, take}
 use Rattle.std.specs.List.{AllZip}
-use Rattle.tp_checks.specs.Resolved.{IsComponentType}
-use Rattle.tp_checks.specs.Sorted.{port_types_in}
+use Rattle.tp_checks.specs.{Resolved.IsComponentType, Sorted.port_types_in}
 use Rattle.tp_checks.proofs.ports.make_components.Given as goal
 
 abbrev pub invariant-loop-component : goal.invariant-loop-component

@@ -1,9 +1,7 @@
 -- The next port type has the lists of what it receives and sends.
 use Rattle.std.proofs.Common.{All, arith, map}
-use Rattle.tp_checks.specs.Resolved.{IsMade}
-use Rattle.tp_checks.specs.Rules.{AreMessagesKnown}
-use Rattle.tp_checks.proofs.ModuleRefusalPropagation.{all_at_map, handed_on}
-use Rattle.tp_checks.proofs.ListPrefixGrowth.{zip_map_more}
+use Rattle.tp_checks.specs.{Resolved.IsMade, Rules.AreMessagesKnown}
+use Rattle.tp_checks.proofs.{ModuleRefusalPropagation.all_at_map, ModuleRefusalPropagation.handed_on, ListPrefixGrowth.zip_map_more}
 use Rattle.tp_checks.proofs.ports.make_port_types.Goals as goal
 
 pub loop-port_type-preserved : goal.loop-port_type-preserved

@@ -1,15 +1,10 @@
 -- A module that is refused for its names or its test case isn't well declared.
-use Rattle.tp_checks.specs.Prepared.{IsWellDeclared}
-use Rattle.tp_checks.proofs.ModuleRefusalPropagation.{handed_on}
-use Rattle.std.proofs.lemmas.Result.{IfErr-weaker}
-use Rattle.tp_checks.specs.Refused.{Tells}
-use Rattle.tp_checks.specs.Broken.{DeclarationsBreak, definitions, names}
-use Rattle.tp_checks.specs.BrokenDefinitions.{DefinitionsOfBreak}
-use Rattle.tp_checks.specs.BrokenNames.{NamesBreak}
-use Rattle.tp_checks.proofs.PreparationFaultsTold.{begins_kept}
-use Rattle.tp_checks.proofs.ModuleFaultPropagation.{handed}
-use Rattle.tp_checks.proofs.preparing.find_definitions.Goals as goal
+use Rattle.tp_checks.specs.{Prepared.IsWellDeclared, Refused.Tells, Broken.DeclarationsBreak, Broken.definitions, Broken.names}
+use Rattle.tp_checks.specs.{BrokenDefinitions.DefinitionsOfBreak, BrokenNames.NamesBreak}
+use Rattle.tp_checks.proofs.{ModuleRefusalPropagation.handed_on, PreparationFaultsTold.begins_kept, ModuleFaultPropagation.handed}
 use Rattle.tp_checks.proofs.RuleFaultPropagation.{told_on}
+use Rattle.std.proofs.lemmas.Result.{IfErr-weaker}
+use Rattle.tp_checks.proofs.preparing.find_definitions.Goals as goal
 
 pub returns-in_err-case-clause-refused : goal.returns-in_err-case-clause-refused
 returns-in_err-case-clause-refused c =

@@ -1,21 +1,14 @@
 -- What the passes made and checked over the sorted names holds of the module itself.
 use Rattle.std.proofs.Common.{◌∙◌, ap, map, subst, sym}
-use Rattle.tp_tree.specs.declared.tree.ComponentType.{ComponentType}
-use Rattle.tp_tree.specs.declared.tree.Function.{Function}
+use Rattle.tp_tree.specs.declared.tree.{ComponentType.ComponentType, Function.Function}
 use Rattle.tp_config.specs.Shape.{ports_of}
-use Rattle.tp_checks.specs.Definitions.{component_types}
-use Rattle.tp_checks.specs.Configuring.{AreSoundVariables, IsConfigBySetup}
-use Rattle.tp_checks.specs.Starting.{AreStarts}
-use Rattle.tp_checks.specs.Prepared.{IsConfigOf}
-use Rattle.tp_checks.proofs.UniqueComponentTypes.{declared_part, own_made}
-use Rattle.tp_checks.proofs.ModuleRefusalPropagation.{handed_on}
-use Rattle.tp_checks.specs.Refused.{Tells}
-use Rattle.tp_checks.specs.Broken.{DeclarationsBreak, ThirdPassBreaks, third_pass}
+use Rattle.tp_checks.specs.{Definitions.component_types, Configuring.AreSoundVariables, Configuring.IsConfigBySetup, Starting.AreStarts}
+use Rattle.tp_checks.specs.{Prepared.IsConfigOf, Refused.Tells, Broken.DeclarationsBreak, Broken.ThirdPassBreaks, Broken.third_pass}
 use Rattle.tp_checks.specs.Sorted.{component_types_in, functions_in}
-use Rattle.tp_checks.proofs.PreparationFaultsTold.{case_known, third_told}
-use Rattle.tp_checks.proofs.ModuleFaultPropagation.{handed}
-use Rattle.tp_checks.proofs.preparing.prepare.Goals as goal
+use Rattle.tp_checks.proofs.{UniqueComponentTypes.declared_part, UniqueComponentTypes.own_made, ModuleRefusalPropagation.handed_on}
+use Rattle.tp_checks.proofs.{PreparationFaultsTold.case_known, PreparationFaultsTold.third_told, ModuleFaultPropagation.handed}
 use Rattle.tp_checks.proofs.RuleFaultPropagation.{told_on}
+use Rattle.tp_checks.proofs.preparing.prepare.Goals as goal
 
 pub set_up_and_start-requires-clause-components : goal.set_up_and_start-requires-clause-components
 set_up_and_start-requires-clause-components c =

@@ -1,14 +1,10 @@
 -- The third pass tells what setup or starts do.
 use Rattle.std.proofs.Common.{map}
-use Rattle.tp_checks.specs.Refused.{Tells}
+use Rattle.tp_checks.specs.{Refused.Tells, Broken.ThirdPassBreaks, Broken.on_setup, Broken.on_starts, BrokenSetup.CaseSetupBreaks}
+use Rattle.tp_checks.specs.{BrokenStarts.StartsBreak, Sorted.component_types_in, Sorted.functions_in}
 use Rattle.tp_config.specs.Shape.{ports_of}
-use Rattle.tp_checks.specs.Broken.{ThirdPassBreaks, on_setup, on_starts}
-use Rattle.tp_checks.specs.BrokenSetup.{CaseSetupBreaks}
-use Rattle.tp_checks.specs.BrokenStarts.{StartsBreak}
-use Rattle.tp_checks.specs.Sorted.{component_types_in, functions_in}
-use Rattle.tp_checks.proofs.ModuleFaultPropagation.{handed}
+use Rattle.tp_checks.proofs.{ModuleFaultPropagation.handed, RuleFaultPropagation.told_on}
 use Rattle.tp_checks.proofs.preparing.set_up_and_start.Goals as goal
-use Rattle.tp_checks.proofs.RuleFaultPropagation.{told_on}
 
 pub returns-in_err-made-clause-told : goal.returns-in_err-made-clause-told
 returns-in_err-made-clause-told c = λ own known.

@@ -1,11 +1,8 @@
 -- The next type goes behind the others, under its own name.
 use Rattle.std.proofs.Common.{arith, map}
-use Rattle.tp_checks.specs.Resolved.{IsNamedType}
+use Rattle.tp_checks.specs.{Resolved.IsNamedType, Definitions.type_of, Rules.AreSoundTypes, Rules.AreTypesKnown}
 use Rattle.std.specs.Prelude.{IsSome}
-use Rattle.tp_checks.specs.Definitions.{type_of}
-use Rattle.tp_checks.specs.Rules.{AreSoundTypes, AreTypesKnown}
-use Rattle.tp_checks.proofs.DistinctNamesInParts.{type_numbered}
-use Rattle.tp_checks.proofs.ModuleRefusalPropagation.{all_at_map, handed_on}
+use Rattle.tp_checks.proofs.{DistinctNamesInParts.type_numbered, ModuleRefusalPropagation.all_at_map, ModuleRefusalPropagation.handed_on}
 use Rattle.tp_checks.proofs.ListPrefixGrowth.{zip_map_more}
 use Rattle.tp_checks.proofs.resolving.make_types.Goals as goal
 

@@ -1,22 +1,13 @@
 -- First `mtc` is added, and behind it the components of the setup statements.
 use Rattle.std.proofs.Common.{ap, subst}
 use Rattle.std.specs.Prelude.{IfErr}
-use Rattle.tp_checks.specs.Refused.{IsRefusedBy}
+use Rattle.tp_checks.specs.{Refused.IsRefusedBy, Refused.Tells, Components.main_component, Components.CanAdd, Sorted.component_types_in}
+use Rattle.tp_checks.specs.{Configuring.AreOwnPorts, Configuring.CanSetUp, BrokenSetup.CaseSetupBreaks, Rules.AreComponentTypesKnown}
 use Rattle.indexmap.proofs.MapLemmas.{OnOk-map}
-use Rattle.tp_checks.specs.Components.{main_component}
-use Rattle.tp_checks.specs.Configuring.{AreOwnPorts, CanSetUp}
-use Rattle.tp_checks.specs.Sorted.{component_types_in}
-use Rattle.tp_checks.proofs.RulesOfAddedComponents.{main_added, main_can}
-use Rattle.tp_checks.proofs.ModuleRefusalPropagation.{handed_on}
-use Rattle.tp_checks.proofs.SetupStatementOutcomes.{adds_main}
-use Rattle.tp_checks.proofs.PortsOfComponentTypes.{have_ports}
-use Rattle.tp_checks.specs.Refused.{Tells}
-use Rattle.tp_tree.specs.declared.tree.Defined.TheVariants as defined
-use Rattle.tp_checks.specs.BrokenSetup.{CaseSetupBreaks}
-use Rattle.tp_checks.specs.Components.{CanAdd}
-use Rattle.tp_checks.specs.Rules.{AreComponentTypesKnown}
-use Rattle.tp_checks.proofs.SetupFaultsTold.{main_free}
+use Rattle.tp_checks.proofs.{RulesOfAddedComponents.main_added, RulesOfAddedComponents.main_can, ModuleRefusalPropagation.handed_on}
+use Rattle.tp_checks.proofs.{SetupStatementOutcomes.adds_main, PortsOfComponentTypes.have_ports, SetupFaultsTold.main_free}
 use Rattle.tp_checks.proofs.ModuleFaultPropagation.{handed, memory_left, tells_memory}
+use Rattle.tp_tree.specs.declared.tree.Defined.TheVariants as defined
 use Rattle.tp_checks.proofs.setup.add_components.Goals as goal
 
 pub returns-clause-added : goal.returns-clause-added

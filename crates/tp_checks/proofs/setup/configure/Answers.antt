@@ -1,24 +1,16 @@
 -- The components are added in their order, and then connected and mapped as the text says.
-use Rattle.std.proofs.Common.{◌∙◌, subst, sym}
+use Rattle.std.proofs.Common.{◌∙◌, subst, sym, [], append-nil, map, ◌∷◌}
 use Rattle.std.proofs.lemmas.Result.{IfErr-weaker}
-use Rattle.tp_checks.specs.Configuring.{HaveOwnPorts}
-use Rattle.indexmap.proofs.MapLemmas.{OnOk-map}
-use Rattle.tp_checks.specs.Components.{component_number}
-use Rattle.tp_checks.specs.Sorted.{component_types_in}
-use Rattle.tp_checks.proofs.RulesOfAddedComponents.{all_ready, interface_ready}
-use Rattle.tp_checks.proofs.ModuleRefusalPropagation.{breaks_part, handed_on}
-use Rattle.tp_checks.proofs.SetupStatementOutcomes.{set_up_is}
-use Rattle.tp_checks.proofs.PortsOfComponentTypes.{have_ports}
-use Rattle.std.proofs.Common.{[], append-nil, map, ◌∷◌}
-use Rattle.tp_checks.specs.Refused.{Tells}
-use Rattle.tp_config.specs.Setup.{Setup, empty_setup}
-use Rattle.tp_checks.specs.Additions.{InterfaceBreaks}
+use Rattle.tp_checks.specs.{Configuring.HaveOwnPorts, Sorted.component_types_in, Refused.Tells, Additions.InterfaceBreaks}
+use Rattle.tp_checks.specs.Components.{component_number, AddsAll, created, creations, main_component}
 use Rattle.tp_checks.specs.BrokenSetup.{CaseSetupBreaks, PairsBreak}
-use Rattle.tp_checks.specs.Components.{AddsAll, created, creations, main_component}
-use Rattle.tp_checks.proofs.SetupFaultsTold.{awaits, beside_told, interface_breaks, pairs_told, small_variables}
-use Rattle.tp_checks.proofs.ModuleFaultPropagation.{handed}
+use Rattle.indexmap.proofs.MapLemmas.{OnOk-map}
+use Rattle.tp_checks.proofs.RulesOfAddedComponents.{all_ready, interface_ready, numbered_variables}
+use Rattle.tp_checks.proofs.{ModuleRefusalPropagation.breaks_part, ModuleRefusalPropagation.handed_on, SetupStatementOutcomes.set_up_is}
+use Rattle.tp_checks.proofs.{PortsOfComponentTypes.have_ports, ModuleFaultPropagation.handed, RuleFaultPropagation.told_from}
+use Rattle.tp_checks.proofs.SetupFaultsTold.{awaits, beside_told, interface_breaks, pairs_told}
+use Rattle.tp_config.specs.Setup.{Setup, empty_setup}
 use Rattle.tp_checks.proofs.setup.configure.Goals as goal
-use Rattle.tp_checks.proofs.RuleFaultPropagation.{told_from}
 
 pub returns-clause-config : goal.returns-clause-config
 returns-clause-config c =
@@ -93,4 +85,4 @@ returns-clause-told c = λ own known.
     (pairs_told names sound.ports made case line case.setups sound.sound first added s c.in_ok-system.ensures.added system
     c.in_ok-system.ensures.number [] f (sym (append-nil case.setups)) told))
     (rw c.as_slice.ensures at (c.connect_all.ensures.told
-    (rw c.as_slice.ensures (small_variables names sound.ports case case.setups sound.sound))))
+    (rw c.as_slice.ensures (numbered_variables names sound.ports case case.setups sound.sound))))

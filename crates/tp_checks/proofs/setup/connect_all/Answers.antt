@@ -1,15 +1,10 @@
 -- Before the first statement there are no variables, and each statement is one step more.
 use Rattle.std.proofs.Common.{arith, subst, sym, take}
-use Rattle.tp_checks.specs.Components.{component_number}
-use Rattle.tp_checks.specs.Configuring.{nothing}
-use Rattle.tp_checks.proofs.SetupStatementGrowth.{makes_more, variables_more}
-use Rattle.tp_checks.proofs.UniqueConfigurations.{makes_types, next_step}
-use Rattle.tp_checks.proofs.ModuleRefusalPropagation.{handed_on}
-use Rattle.tp_checks.specs.Configuring.{HaveOwnPorts}
-use Rattle.tp_checks.specs.Refused.{Tells}
+use Rattle.tp_checks.specs.{Components.component_number, Configuring.nothing, Configuring.HaveOwnPorts, Refused.Tells}
 use Rattle.tp_checks.specs.BrokenSetup.{PairsBreak}
+use Rattle.tp_checks.proofs.{SetupStatementGrowth.makes_more, SetupStatementGrowth.variables_more, ModuleRefusalPropagation.handed_on}
+use Rattle.tp_checks.proofs.{UniqueConfigurations.makes_leaves, UniqueConfigurations.next_step, ModuleFaultPropagation.handed}
 use Rattle.tp_checks.proofs.PairFaultsTold.{numbered_next, pair_among}
-use Rattle.tp_checks.proofs.ModuleFaultPropagation.{handed}
 use Rattle.tp_checks.proofs.setup.connect_all.Goals as goal
 
 pub loop-setup-init : goal.loop-setup-init
@@ -33,7 +28,7 @@ returns-in_err-add_setup-clause-refused c = λ own.
     let system = component_number c.args.system in
     handed_on c.from_residual.result _ c.from_residual.ensures.1
     (c.in_err-add_setup.ensures.refused c.loop-setup.invariant.numbered
-    (subst HaveOwnPorts (sym (makes_types system c.args.config.now (take i xs) c.loop-setup.config c.loop-setup.invariant.makes)) own))
+    (subst HaveOwnPorts (sym (makes_leaves system c.args.config.now (take i xs) c.loop-setup.config c.loop-setup.invariant.makes).0) own))
     (next_step system c.args.config.now own xs i c.setup-item.result c.loop-setup.config c.loop-setup.known (omega arith) c.setup-item.is
     c.loop-setup.invariant.makes c.loop-setup.invariant.known)
 

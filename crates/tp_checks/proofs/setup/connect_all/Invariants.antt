@@ -1,8 +1,6 @@
 -- The statements so far were done, and the variables are those that they declare.
 use Rattle.std.proofs.Common.{◌≡◌, take}
-use Rattle.tp_checks.specs.Tables.{IsNumbered}
-use Rattle.tp_checks.specs.Components.{component_number, variables}
-use Rattle.tp_checks.specs.Configuring.{Makes}
+use Rattle.tp_checks.specs.{Tables.IsNumbered, Components.component_number, Components.variables, Configuring.Makes}
 use Rattle.tp_checks.proofs.setup.connect_all.Given as goal
 
 abbrev pub invariant-loop-setup : goal.invariant-loop-setup

@@ -1,12 +1,9 @@
 -- The ports of the main component are those of its type.
-use Rattle.std.proofs.lemmas.Result.{IfErr-weaker}
-use Rattle.tp_checks.specs.Sorted.{component_types_in}
+use Rattle.std.proofs.{lemmas.Result.IfErr-weaker, Common.List, Common.ℕ}
+use Rattle.tp_checks.specs.{Sorted.component_types_in, Refused.Tells, BrokenSetup.CaseSetupBreaks, BrokenSetup.SetupBreaks}
+use Rattle.tp_checks.specs.Components.{HasPorts}
 use Rattle.tp_checks.proofs.ModuleRefusalPropagation.{breaks_part, handed_on}
 use Rattle.tp_checks.proofs.PortsOfComponentTypes.{can_beside, have_ports}
-use Rattle.std.proofs.Common.{List, ℕ}
-use Rattle.tp_checks.specs.Refused.{Tells}
-use Rattle.tp_checks.specs.BrokenSetup.{CaseSetupBreaks, SetupBreaks}
-use Rattle.tp_checks.specs.Components.{HasPorts}
 use Rattle.tp_checks.proofs.SetupFaultsTold.{beside_told, ports_there}
 use Rattle.tp_checks.proofs.ModuleFaultPropagation.{handed, memory_left, tells_memory}
 use Rattle.tp_checks.proofs.setup.create_all.Goals as goal

@@ -1,12 +1,8 @@
 -- Where making the components stopped, the first fault is told.
-use Rattle.std.proofs.Common.{subst}
-use Rattle.tp_checks.specs.Configuring.{CanSetUpBeside, HavePorts}
-use Rattle.tp_checks.proofs.RulesOfAddedComponents.{beside_can, has_first}
-use Rattle.tp_checks.proofs.ModuleRefusalPropagation.{breaks_part}
-use Rattle.std.proofs.Common.{codes, sym, ◌∷◌, []}
-use Rattle.tp_checks.specs.Refused.{Tells}
-use Rattle.tp_checks.specs.Additions.{StopsCreating}
+use Rattle.std.proofs.Common.{subst, codes, sym, ◌∷◌, []}
+use Rattle.tp_checks.specs.{Configuring.CanSetUpBeside, Configuring.HavePorts, Refused.Tells, Additions.StopsCreating}
 use Rattle.tp_checks.specs.BrokenSetup.{SetupBreaks}
+use Rattle.tp_checks.proofs.{RulesOfAddedComponents.beside_can, RulesOfAddedComponents.has_first, ModuleRefusalPropagation.breaks_part}
 use Rattle.tp_checks.proofs.SetupFaultsTold.{room_first}
 use Rattle.tp_checks.proofs.setup.create_beside.Goals as goal
 

@@ -1,16 +1,12 @@
 -- What refuses a connection beside fewer components refuses it beside all.
 use Rattle.std.proofs.Common.{subst, sym}
-use Rattle.tp_checks.specs.Components.{component_number}
-use Rattle.tp_checks.specs.Configuring.{HaveOwnPorts}
-use Rattle.tp_checks.proofs.RulesOfAddedComponents.{interface_can}
-use Rattle.tp_checks.proofs.ModuleRefusalPropagation.{breaks_part}
-use Rattle.tp_checks.proofs.SetupBeforeRefusedCreate.{before_can}
-use Rattle.tp_checks.specs.Additions.{InterfaceBreaks, StopsCreating}
+use Rattle.tp_checks.specs.{Components.component_number, Configuring.HaveOwnPorts, Additions.InterfaceBreaks, Additions.StopsCreating}
 use Rattle.tp_checks.specs.BrokenSetup.{SetupBreaks}
-use Rattle.tp_checks.proofs.SetupFaultsTold.{awaits, interface_breaks, pairs_told, small_variables, stopped_told}
-use Rattle.tp_checks.proofs.setup.first_fault.Goals as goal
+use Rattle.tp_checks.proofs.RulesOfAddedComponents.{interface_can, numbered_variables}
+use Rattle.tp_checks.proofs.{ModuleRefusalPropagation.breaks_part, SetupBeforeRefusedCreate.before_can, RuleFaultPropagation.told_from}
+use Rattle.tp_checks.proofs.SetupFaultsTold.{awaits, interface_breaks, pairs_told, stopped_told}
 use Rattle.tp_checks.proofs.setup.first_fault.Goals.{in-Ok-connect_all, in-Err-connect_all}
-use Rattle.tp_checks.proofs.RuleFaultPropagation.{told_from}
+use Rattle.tp_checks.proofs.setup.first_fault.Goals as goal
 
 pub returns-in-Err-clause-broken : goal.returns-in-Err-clause-broken
 returns-in-Err-clause-broken c = λ have.
@@ -61,5 +57,5 @@ returns-clause-told c = λ have known (stops : StopsCreating _ _ _ _ _ _ _).
           rw w.result-is
           (pairs_told rules.type_names.now rules.port_names.now s.types case line before stops.sound s first.added c.add_interface.new.config
           c.in-Ok.ensures.added system c.in-Ok.ensures.number first.rest w.in-Err-connect_all.fault first.all
-          (w.in-Err-connect_all.ensures.told (small_variables rules.type_names.now rules.port_names.now case before stops.sound)))
+          (w.in-Err-connect_all.ensures.told (numbered_variables rules.type_names.now rules.port_names.now case before stops.sound)))
     ]

@@ -1,12 +1,8 @@
 -- The definitions of a kind have names of their own, where no two definitions have one.
 use Rattle.std.proofs.Common.{List, map, subst, sym}
-use Rattle.tp_tree.specs.declared.tree.ComponentType.{ComponentType}
-use Rattle.tp_tree.specs.declared.tree.Definition.{Definition}
-use Rattle.tp_tree.specs.declared.tree.Function.{Function}
-use Rattle.tp_tree.specs.declared.tree.PortType.{PortType}
-use Rattle.tp_checks.specs.Tables.{IsNumbered}
+use Rattle.tp_tree.specs.declared.tree.{ComponentType.ComponentType, Definition.Definition, Function.Function, PortType.PortType}
+use Rattle.tp_checks.specs.{Tables.IsNumbered, Rules.HasUniqueNames}
 use Rattle.tp_checks.specs.Definitions.{of_kind, component_type_of, function_of, name_of, port_type_of, type_of}
-use Rattle.tp_checks.specs.Rules.{HasUniqueNames}
 use Rattle.tp_checks.proofs.DistinctNamesInParts.{component_named, function_named, numbered_among, port_named, type_named}
 use Rattle.tp_checks.proofs.ModuleRefusalPropagation.{handed_on}
 use Rattle.tp_checks.proofs.sorted.sort.Goals as goal

@@ -2,8 +2,7 @@
 use Rattle.std.proofs.Common.{◌+◌, ◌++◌, ◌∷◌, [], ◌∙◌, ap, arith, map, refl, subst, sym}
 use Rattle.std.proofs.lemmas.List.{map_push}
 use Rattle.tp_checks.specs.Tables.{IsNumbered}
-use Rattle.tp_checks.proofs.DistinctNamesInParts.{numbered_kind_first}
-use Rattle.tp_checks.proofs.ModuleRefusalPropagation.{name_refused}
+use Rattle.tp_checks.proofs.{DistinctNamesInParts.numbered_kind_first, ModuleRefusalPropagation.name_refused}
 use Rattle.tp_checks.proofs.SortedDefinitionGrowth.{same_kind, more_kind}
 use Rattle.tp_checks.proofs.sorted.sort_kind.Goals as goal
 

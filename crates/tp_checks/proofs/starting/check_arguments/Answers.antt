@@ -1,10 +1,7 @@
 -- The next argument names a component that there is, which has its parameter's type.
-use Rattle.std.proofs.Common.{ap, arith, inr, length, map}
-use Rattle.std.proofs.lemmas.Slice.Zip.{AllZip-long}
+use Rattle.std.proofs.{Common.ap, Common.arith, Common.inr, Common.length, Common.map, lemmas.Slice.Zip.AllZip-long}
 use Rattle.tp_checks.specs.Starting.{HasParameterType, IsArgument}
-use Rattle.tp_checks.proofs.ModuleRefusalPropagation.{handed_on}
-use Rattle.tp_checks.proofs.ListPrefixGrowth.{zip_more}
-use Rattle.tp_checks.proofs.UniqueZipsAndPlaces.{zip_both}
+use Rattle.tp_checks.proofs.{ModuleRefusalPropagation.handed_on, ListPrefixGrowth.zip_more, UniqueZipsAndPlaces.zip_both}
 use Rattle.tp_checks.proofs.starting.check_arguments.Goals as goal
 
 pub loop-i-preserved : goal.loop-i-preserved

@@ -2,19 +2,10 @@
 use Rattle.std.proofs.Common.{◌+◌, ◌++◌, ◌∷◌, [], ◌∙◌, ap, arith, drop, map, subst, sym, take}
 use Rattle.std.proofs.lemmas.List.{map_push}
 use Rattle.tp_tree.specs.declared.tree.ComponentStart.{ComponentStart}
-use Rattle.tp_checks.specs.Sorted.{functions_in}
-use Rattle.tp_checks.specs.Starting.{IsStartOf}
-use Rattle.tp_checks.specs.Tables.{IsNumbered}
-use Rattle.tp_checks.proofs.NameSetLookups.{place_known}
-use Rattle.tp_checks.proofs.DistinctNamesInParts.{numbered_first}
-use Rattle.tp_checks.proofs.ModuleRefusalPropagation.{handed_on, mapped_behind}
-use Rattle.tp_checks.proofs.ListPrefixGrowth.{pushed, zip_more}
-use Rattle.tp_checks.proofs.UniqueZipsAndPlaces.{zip_here}
-use Rattle.tp_checks.specs.Refused.{Tells}
-use Rattle.tp_checks.specs.BrokenStarts.{StartBreaksAmong}
-use Rattle.tp_checks.proofs.DistinctNamesInParts.{repeated}
-use Rattle.tp_checks.proofs.StartFaultsTold.{start_among}
-use Rattle.tp_checks.proofs.ModuleFaultPropagation.{handed}
+use Rattle.tp_checks.specs.{Sorted.functions_in, Starting.IsStartOf, Tables.IsNumbered, Refused.Tells, BrokenStarts.StartBreaksAmong}
+use Rattle.tp_checks.proofs.{NameSetLookups.place_known, DistinctNamesInParts.numbered_first, DistinctNamesInParts.repeated}
+use Rattle.tp_checks.proofs.{ModuleRefusalPropagation.handed_on, ModuleRefusalPropagation.mapped_behind, UniqueZipsAndPlaces.zip_here}
+use Rattle.tp_checks.proofs.{ListPrefixGrowth.pushed, ListPrefixGrowth.zip_more, StartFaultsTold.start_among, ModuleFaultPropagation.handed}
 use Rattle.tp_checks.proofs.starting.check_each.Goals as goal
 
 pub loop-start-preserved : goal.loop-start-preserved

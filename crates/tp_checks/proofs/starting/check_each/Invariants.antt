@@ -1,9 +1,7 @@
 -- The starts so far obey their rules, and start different components.
 use Rattle.std.proofs.Common.{◌≡◌, map, take}
 use Rattle.std.specs.List.{AllZip}
-use Rattle.tp_checks.specs.Tables.{IsNumbered}
-use Rattle.tp_checks.specs.Sorted.{functions_in}
-use Rattle.tp_checks.specs.Starting.{IsStartOf, started_names}
+use Rattle.tp_checks.specs.{Tables.IsNumbered, Sorted.functions_in, Starting.IsStartOf, Starting.started_names}
 use Rattle.tp_checks.proofs.starting.check_each.Given as goal
 
 abbrev pub invariant-loop-start : goal.invariant-loop-start

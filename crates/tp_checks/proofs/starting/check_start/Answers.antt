@@ -1,21 +1,15 @@
 -- The function is not `sut`, runs on the component's type, and is given what it takes.
-use Rattle.std.proofs.Common.{◌≡◌, ◌+◌, ◌∙◌, ℕ, Option, None, Some, ap, map, refl, inr, slice_get, sym, true≢false}
-use Rattle.std.specs.Option.{option_map}
+use Rattle.std.proofs.Common.{◌≡◌, ◌+◌, ◌∙◌, ℕ, Option, None, Some, ap, map, refl, inr, slice_get, sym, true≢false, Contains, subst}
 use Rattle.std.proofs.lemmas.Option.{same_Some}
-use Rattle.tp_checks.specs.Tables.{place_of_name}
-use Rattle.tp_checks.proofs.NameSetLookups.{named_at}
-use Rattle.tp_checks.specs.Sorted.{functions_in}
-use Rattle.tp_tree.specs.declared.tree.Function.{Function}
-use Rattle.tp_checks.proofs.StartLookups.{given_there, item_there, no_function, runs_there}
-use Rattle.tp_checks.proofs.ModuleRefusalPropagation.{handed_on}
-use Rattle.tp_checks.specs.Refused.{TellsAt}
-use Rattle.tp_checks.proofs.NameSetLookups.{place_known, place_unknown}
-use Rattle.std.proofs.Common.{Contains, subst}
+use Rattle.std.specs.Option.{option_map}
+use Rattle.tp_checks.specs.{Tables.place_of_name, Sorted.functions_in, Refused.TellsAt}
 use Rattle.tp_checks.specs.BrokenStarts.{ArgumentsBreak, IsStartFunction, StartBreaks, other_arguments, other_type, starts_sut, unknown_function, unknown_variable}
-use Rattle.tp_checks.proofs.StartFaultsTold.{start_function}
-use Rattle.tp_checks.proofs.ModuleFaultPropagation.{handed}
-use Rattle.tp_checks.proofs.starting.check_start.Goals as goal
+use Rattle.tp_checks.proofs.NameSetLookups.{named_at, place_known, place_unknown}
+use Rattle.tp_checks.proofs.StartLookups.{given_there, item_there, no_function, runs_there}
+use Rattle.tp_checks.proofs.{ModuleRefusalPropagation.handed_on, StartFaultsTold.start_function, ModuleFaultPropagation.handed}
 use Rattle.tp_checks.proofs.RuleFaultPropagation.{told_at}
+use Rattle.tp_tree.specs.declared.tree.Function.{Function}
+use Rattle.tp_checks.proofs.starting.check_start.Goals as goal
 
 -- the place of the name of a component variable, whose component is the one behind it
 place_before : (o : Option ℕ) (n : ℕ) → option_map (λ k. k + 1) o ≡ Some n → (k : ℕ) × (o ≡ Some k) × (n ≡ k + 1)

@@ -1,14 +1,10 @@
 -- Each component is started once, and `all component.done` is there where there are any.
 use Rattle.std.proofs.Common.{subst}
-use Rattle.tp_checks.specs.Tables.{IsNumbered}
-use Rattle.tp_checks.specs.Refused.{Tells}
+use Rattle.tp_checks.specs.{Tables.IsNumbered, Refused.Tells, Components.variables, Sorted.functions_in}
 use Rattle.tp_checks.specs.BrokenStarts.{AfterStartsBreaks, AreStarted, StartBreaksAmong, StartsBreak, a_start, after_starts}
-use Rattle.tp_checks.specs.Components.{variables}
-use Rattle.tp_checks.specs.Sorted.{functions_in}
 use Rattle.tp_checks.specs.Starting.{started_names, type_names_of}
-use Rattle.tp_checks.proofs.ModuleFaultPropagation.{handed}
+use Rattle.tp_checks.proofs.{ModuleFaultPropagation.handed, RuleFaultPropagation.told_on}
 use Rattle.tp_checks.proofs.starting.check_starts.Goals as goal
-use Rattle.tp_checks.proofs.RuleFaultPropagation.{told_on}
 
 pub returns-clause-starts : goal.returns-clause-starts
 returns-clause-starts c = record {

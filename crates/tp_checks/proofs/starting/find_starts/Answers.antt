@@ -1,11 +1,9 @@
 -- A statement that makes no component needs no start, and the next `var` has one.
 use Rattle.std.proofs.Common.{inr, ◌++◌, ◌∷◌, [], arith, map, subst, sym, take}
-use Rattle.std.specs.List.{AllZip}
 use Rattle.std.proofs.lemmas.List.{map_push}
-use Rattle.tp_checks.specs.Components.{creations, variable_name}
-use Rattle.tp_checks.specs.Starting.{IsStartPlace}
-use Rattle.tp_checks.proofs.CreatedComponentGrowth.{no_creation, one_creation}
-use Rattle.tp_checks.proofs.ListPrefixGrowth.{zip_push}
+use Rattle.std.specs.List.{AllZip}
+use Rattle.tp_checks.specs.{Components.creations, Components.variable_name, Starting.IsStartPlace}
+use Rattle.tp_checks.proofs.{CreatedComponentGrowth.no_creation, CreatedComponentGrowth.one_creation, ListPrefixGrowth.zip_push}
 use Rattle.tp_checks.proofs.StartLookups.{not_started}
 use Rattle.tp_checks.proofs.starting.find_starts.Goals as goal
 

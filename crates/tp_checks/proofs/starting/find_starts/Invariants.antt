@@ -1,8 +1,7 @@
 -- The places of the starts of the variables so far are found.
 use Rattle.std.proofs.Common.{take}
 use Rattle.std.specs.List.{AllZip}
-use Rattle.tp_checks.specs.Components.{variables}
-use Rattle.tp_checks.specs.Starting.{IsStartPlace}
+use Rattle.tp_checks.specs.{Components.variables, Starting.IsStartPlace}
 use Rattle.tp_checks.proofs.starting.find_starts.Given as goal
 
 abbrev pub invariant-loop-setup : goal.invariant-loop-setup

@@ -1,6 +1,5 @@
 -- Two type names whose characters are the same are one.
-use Rattle.std.proofs.Common.{List, ℕ, Some, ap, sym, ◌∙◌}
-use Rattle.std.proofs.lemmas.Slice.Eq.{bytes_eq-Decides}
+use Rattle.std.proofs.{Common.List, Common.ℕ, Common.Some, Common.ap, Common.sym, Common.◌∙◌, lemmas.Slice.Eq.bytes_eq-Decides}
 use Rattle.std.proofs.lemmas.Option.{same_Some}
 use Rattle.tp_checks.proofs.starting.is_of_type.Goals as goal
 

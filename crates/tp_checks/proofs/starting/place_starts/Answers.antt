@@ -1,14 +1,10 @@
 -- There are as many starts as components, so where there are any they are waited for.
-use Rattle.std.proofs.Common.{◌≡◌, ◌<◌, ◌∙◌, arith, length, subst, sym}
-use Rattle.std.specs.List.{AllZip}
-use Rattle.std.proofs.lemmas.List.{length-map}
+use Rattle.std.proofs.{Common.◌≡◌, Common.◌<◌, Common.◌∙◌, Common.arith, Common.length, Common.subst, Common.sym, lemmas.List.length-map}
 use Rattle.std.proofs.lemmas.Slice.Zip.{AllZip-long}
-use Rattle.tp_checks.specs.Components.{creations, variable_name, variables}
-use Rattle.tp_checks.specs.Starting.{IsStartPlace}
-use Rattle.tp_checks.specs.Refused.{Tells}
+use Rattle.std.specs.List.{AllZip}
+use Rattle.tp_checks.specs.{Components.creations, Components.variable_name, Components.variables, Starting.IsStartPlace, Refused.Tells}
 use Rattle.tp_checks.specs.BrokenStarts.{AfterStartsBreaks, no_done}
-use Rattle.tp_checks.proofs.StartFaultsTold.{all_started, some_creations}
-use Rattle.tp_checks.proofs.ModuleFaultPropagation.{handed}
+use Rattle.tp_checks.proofs.{StartFaultsTold.all_started, StartFaultsTold.some_creations, ModuleFaultPropagation.handed}
 use Rattle.tp_checks.proofs.starting.place_starts.Goals as goal
 
 pub returns-clause-places : goal.returns-clause-places

@@ -1,8 +1,5 @@
 -- What is started is judged by the types of `mtc` and of the components that are made.
-use Rattle.tp_checks.specs.Refused.{Tells}
-use Rattle.tp_checks.specs.BrokenStarts.{StartBreaksAmong}
-use Rattle.tp_checks.specs.Sorted.{functions_in}
-use Rattle.tp_checks.specs.Starting.{type_names_of}
+use Rattle.tp_checks.specs.{Refused.Tells, BrokenStarts.StartBreaksAmong, Sorted.functions_in, Starting.type_names_of}
 use Rattle.tp_checks.proofs.ModuleFaultPropagation.{handed, tells_memory}
 use Rattle.tp_checks.proofs.starting.start_all.Goals as goal
 

@@ -1,9 +1,7 @@
 -- The name of the definition can't be given, or one in it.
-use Rattle.tp_checks.specs.BrokenNames.{GivenNamesBreak, NameBreaks, own_name}
-use Rattle.tp_checks.specs.Definitions.{name_of}
-use Rattle.tp_checks.proofs.ModuleFaultPropagation.{name_told}
+use Rattle.tp_checks.specs.{BrokenNames.GivenNamesBreak, BrokenNames.NameBreaks, BrokenNames.own_name, Definitions.name_of}
+use Rattle.tp_checks.proofs.{ModuleFaultPropagation.name_told, RuleFaultPropagation.told_from}
 use Rattle.tp_checks.proofs.unique_names.check_name.Goals as goal
-use Rattle.tp_checks.proofs.RuleFaultPropagation.{told_from}
 
 pub returns-in-Err-clause-told : goal.returns-in-Err-clause-told
 returns-in-Err-clause-told c =

@@ -1,11 +1,9 @@
 -- No two definitions of the module have one name, nor any two names within a definition.
 use Rattle.std.proofs.Common.{◌≡◌, ◌∷◌, [], ◌∙◌, All, ap, arith, inr, length, map, subst, sym}
 use Rattle.tp_tree.specs.declared.tree.Definition.{Definition}
-use Rattle.tp_checks.specs.Tables.{IsNumbered}
-use Rattle.tp_checks.specs.Definitions.{of_kind, case_of, inner_names, name_of}
+use Rattle.tp_checks.specs.{Tables.IsNumbered, Definitions.of_kind, Definitions.case_of, Definitions.inner_names, Definitions.name_of}
 use Rattle.tp_checks.specs.Rules.{AreNamed, HasOneTestCase, HasUniqueNames}
-use Rattle.tp_checks.proofs.DistinctNamesInParts.{no_case}
-use Rattle.tp_checks.proofs.ModuleRefusalPropagation.{handed_on}
+use Rattle.tp_checks.proofs.{DistinctNamesInParts.no_case, ModuleRefusalPropagation.handed_on}
 use Rattle.tp_checks.proofs.unique_names.check_names.Goals as goal
 
 pub returns-in-Some-clause-names : goal.returns-in-Some-clause-names

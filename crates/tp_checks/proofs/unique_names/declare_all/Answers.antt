@@ -1,7 +1,6 @@
 -- A name that is refused is among all of them.
 use Rattle.std.proofs.Common.{◌+◌, arith, drop, map, subst}
-use Rattle.tp_checks.specs.Tables.{IsNumbered}
-use Rattle.tp_checks.specs.Definitions.{declared}
+use Rattle.tp_checks.specs.{Tables.IsNumbered, Definitions.declared}
 use Rattle.tp_checks.proofs.DistinctNamesInParts.{numbered_first}
 use Rattle.tp_checks.proofs.ModuleRefusalPropagation.{handed_on, mapped_behind}
 use Rattle.tp_checks.proofs.unique_names.declare_all.Goals as goal

@@ -1,7 +1,6 @@
 -- The names so far are added, and no two are equal.
 use Rattle.std.proofs.Common.{◌≡◌, ◌++◌, map, take}
-use Rattle.tp_checks.specs.Tables.{IsNumbered}
-use Rattle.tp_checks.specs.Definitions.{declared}
+use Rattle.tp_checks.specs.{Tables.IsNumbered, Definitions.declared}
 use Rattle.tp_checks.proofs.unique_names.declare_all.Given as goal
 
 abbrev pub invariant-loop-item : goal.invariant-loop-item

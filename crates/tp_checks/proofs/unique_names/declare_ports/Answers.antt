@@ -1,15 +1,10 @@
 -- A name that is refused is among those of all ports.
-use Rattle.std.proofs.lemmas.Grind.{common_steps}
-use Rattle.std.proofs.Common.{◌≡◌, ◌++◌, ◌+◌, arith, drop, map, subst}
+use Rattle.std.proofs.{lemmas.Grind.common_steps, Common.◌≡◌, Common.◌++◌, Common.◌+◌, Common.arith, Common.drop, Common.map, Common.subst}
 use Rattle.tp_tree.specs.declared.tree.PortDeclaration.{PortDeclaration}
-use Rattle.tp_checks.specs.Tables.{IsNumbered}
-use Rattle.tp_checks.specs.Definitions.{declared, declared_ports}
-use Rattle.tp_checks.proofs.DistinctNamesInParts.{numbered_first}
-use Rattle.tp_checks.proofs.ModuleRefusalPropagation.{flat_behind, handed_on}
+use Rattle.tp_checks.specs.{Tables.IsNumbered, Definitions.declared, Definitions.declared_ports, Refused.Tells}
 use Rattle.tp_checks.specs.BrokenNames.{DeclaringBreaks, port_name_list}
-use Rattle.tp_checks.specs.Refused.{Tells}
-use Rattle.tp_checks.proofs.NameFaultsTold.{map_same, port_among}
-use Rattle.tp_checks.proofs.ModuleFaultPropagation.{handed}
+use Rattle.tp_checks.proofs.{DistinctNamesInParts.numbered_first, ModuleRefusalPropagation.flat_behind, ModuleRefusalPropagation.handed_on}
+use Rattle.tp_checks.proofs.{NameFaultsTold.map_same, NameFaultsTold.port_among, ModuleFaultPropagation.handed}
 use Rattle.tp_checks.proofs.unique_names.declare_ports.Goals as goal
 
 pub returns-in_err-declare_all-clause-refused : goal.returns-in_err-declare_all-clause-refused

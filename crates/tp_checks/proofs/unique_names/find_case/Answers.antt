@@ -3,19 +3,14 @@ use Rattle.std.proofs.Common.{All, IfSome, [], ap, arith, drop, inr, map, subst,
 use Rattle.std.proofs.lemmas.List.{map_push, take_all}
 use Rattle.std.specs.Option.{option_to_list}
 use Rattle.tp_tree.specs.declared.tree.Definition.{Definition}
-use Rattle.tp_checks.specs.Tables.{IsNumbered}
-use Rattle.tp_checks.specs.Cases.{cases_of}
-use Rattle.tp_checks.specs.Refused.{Tells}
-use Rattle.tp_checks.specs.BrokenNames.{DefinitionNamesBreak, GivenNamesBreak}
+use Rattle.tp_checks.specs.{Tables.IsNumbered, Cases.cases_of, Refused.Tells, BrokenNames.DefinitionNamesBreak, BrokenNames.GivenNamesBreak}
 use Rattle.tp_checks.specs.Definitions.{BeginsAmong, of_kind, case_of, inner_names, name_of}
 use Rattle.tp_checks.specs.Rules.{AreNamed}
-use Rattle.tp_checks.proofs.TestCaseFaultsTold.{begins_more, given_told}
-use Rattle.tp_checks.proofs.ModuleFaultPropagation.{handed}
-use Rattle.tp_checks.proofs.DistinctNamesInParts.{many_cases, numbered_first}
+use Rattle.tp_checks.proofs.{TestCaseFaultsTold.begins_more, TestCaseFaultsTold.given_told, ModuleFaultPropagation.handed}
+use Rattle.tp_checks.proofs.{DistinctNamesInParts.many_cases, DistinctNamesInParts.numbered_first, RuleFaultPropagation.told_on}
 use Rattle.tp_checks.proofs.ModuleRefusalPropagation.{all_at, handed_on, mapped_behind}
 use Rattle.tp_checks.proofs.ListPrefixGrowth.{all_more, kept_more, pushed}
 use Rattle.tp_checks.proofs.unique_names.find_case.Goals as goal
-use Rattle.tp_checks.proofs.RuleFaultPropagation.{told_on}
 
 pub loop-definition-preserved : goal.loop-definition-preserved
 loop-definition-preserved c =

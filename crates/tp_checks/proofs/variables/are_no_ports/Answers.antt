@@ -1,22 +1,19 @@
 -- No parameter has the name of the next port, and at the end there is no other.
 use Rattle.std.proofs.Common.{◌≡◌, ℕ, arith, ap, refl, sym, ◌∙◌, option_map, slice_get, Some, string_bytes, String, Global, true≢false}
-use Rattle.std.proofs.lemmas.List.{length-map}
-use Rattle.std.proofs.lemmas.Option.{slice_get-map, slice_get_within}
-use Rattle.tp_config.specs.declared.port_type.PortType.{PortType}
-use Rattle.tp_config.specs.declared.port_type.CompType.{CompType}
-use Rattle.tp_checks.specs.Scoping.{declared_port_names}
-use Rattle.tp_checks.proofs.NameLookupsAreUnique.{absent_place, contained_at}
-use Rattle.tp_checks.proofs.PortNamesGrowth.{ports_more}
+use Rattle.std.proofs.{lemmas.List.length-map, lemmas.Option.slice_get-map, lemmas.Option.slice_get_within}
+use Rattle.tp_config.specs.declared.port_type.{PortType.PortType, CompType.CompType}
+use Rattle.tp_checks.specs.Scoping.{ports_in}
+use Rattle.tp_checks.proofs.{NameLookupsAreUnique.absent_place, NameLookupsAreUnique.contained_at, PortNamesGrowth.ports_more}
 use Rattle.tp_checks.proofs.variables.are_no_ports.Goals as goal
 
 -- the name of the port at this place
 name_here : (ports : CompType) (k : ℕ) (e : String Global × PortType) → Some e ≡ slice_get ports.ports.entries k
-    → slice_get (declared_port_names ports) k ≡ Some (string_bytes e.0)
+    → slice_get (ports_in ports).names k ≡ Some (string_bytes e.0)
 name_here ports k e is = slice_get-map (λ e. string_bytes e.0) ports.ports.entries k ∙ ap (option_map (λ e. string_bytes e.0)) (sym is)
 
 pub loop-place-preserved : goal.loop-place-preserved
 loop-place-preserved c =
-    ports_more (declared_port_names c.args.scope.now.component_type.now) c.args.scope.now.parameters.now c.loop-place.place (string_bytes c.in-Some.name.now)
+    ports_more (ports_in c.args.scope.now.component_type.now).names c.args.scope.now.parameters.now c.loop-place.place (string_bytes c.in-Some.name.now)
     (name_here c.args.scope.now.component_type.now c.loop-place.place _ c.in-Some.ensures.entry)
     (rw c.as_str.ensures.value at c.in-None.ensures.absent) c.loop-place.invariant
 
@@ -34,7 +31,7 @@ returns-in_default-find-clause-twice c =
     let port = name_here c.args.scope.now.component_type.now c.loop-place.place _ c.in-Some.ensures.entry in
     let there = rw c.as_str.ensures.value at c.in_default-find.ensures.there in (
       name,
-      contained_at (declared_port_names c.args.scope.now.component_type.now) name c.loop-place.place port,
+      contained_at (ports_in c.args.scope.now.component_type.now).names name c.loop-place.place port,
       contained_at c.args.scope.now.parameters.now name _ there.there,
     )
 
@@ -42,7 +39,7 @@ pub returns-clause-apart : goal.returns-clause-apart
 returns-clause-apart c =
     let entries = c.args.scope.now.component_type.now.ports.entries in (
       λ t k name there.
-          let within = slice_get_within (declared_port_names c.args.scope.now.component_type.now) k name there in
+          let within = slice_get_within (ports_in c.args.scope.now.component_type.now).names k name there in
           c.loop-place.invariant k name (omega (arith, within, length-map entries (λ e. string_bytes e.0), c.len-place-end.ensures)) there,
       λ h. refl,
     )

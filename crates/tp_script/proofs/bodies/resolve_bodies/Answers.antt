@@ -1,10 +1,9 @@
 -- The body that is refused is the test case's own, or else that of a function.
 use Rattle.tp_checks.specs.Refused.{Tells}
-use Rattle.tp_checks.proofs.ModuleFaultPropagation.{handed}
+use Rattle.tp_checks.proofs.{ModuleFaultPropagation.handed, RuleFaultPropagation.told_on}
 use Rattle.tp_script.specs.BrokenModules.{BodiesBreak, FunctionsBreak, MainBreaks, in_function, in_main}
 use Rattle.tp_script.specs.Instances.{known_in}
 use Rattle.tp_script.proofs.bodies.resolve_bodies.Goals as goal
-use Rattle.tp_checks.proofs.RuleFaultPropagation.{told_on}
 
 pub returns-in_err-main-clause-told : goal.returns-in_err-main-clause-told
 returns-in_err-main-clause-told c = λ sound own can run.

@@ -1,13 +1,11 @@
 -- The next definition is no function, or its body stands behind the others.
 use Rattle.std.proofs.Common.{arith, sym, subst}
 use Rattle.std.specs.List.{AllZip}
-use Rattle.tp_script.specs.Instances.{known_in}
-use Rattle.tp_script.specs.Scopes.{IsFunctionBody}
-use Rattle.tp_script.proofs.FunctionBodyGrowth.{no_function, one_function, one_refused, own_parameters}
+use Rattle.tp_script.specs.{Instances.known_in, Scopes.IsFunctionBody, BrokenModules.FunctionsBreak}
+use Rattle.tp_script.proofs.FunctionBodyGrowth.{no_function, one_function, own_parameters}
+use Rattle.tp_script.proofs.ModuleFaultsTold.{can_run, function_told}
 use Rattle.tp_checks.specs.Refused.{Tells}
 use Rattle.tp_checks.proofs.ModuleFaultPropagation.{handed}
-use Rattle.tp_script.specs.BrokenModules.{FunctionsBreak}
-use Rattle.tp_script.proofs.ModuleFaultsTold.{can_run, function_told}
 use Rattle.tp_script.proofs.bodies.resolve_functions.Goals as goal
 
 pub loop-definition-preserved-in_default : goal.loop-definition-preserved-in_default
@@ -22,13 +20,6 @@ loop-definition-preserved c =
     (one_function (IsFunctionBody (known_in c.args.prepared.now)) c.args.definitions.now c.loop-definition.bodies.items c.loop-definition.definition-index
     c.definition-item.result (omega arith) c.definition-item.is
     c.loop-definition.invariant c.in-Some.function.now c.in_ok-body.body c.in-Some.ensures c.in_ok-body.ensures.body)
-
-pub returns-in_err-body-clause-refused : goal.returns-in_err-body-clause-refused
-returns-in_err-body-clause-refused c = λ sound own.
-    let fault = c.in_err-body.field-0.0 in
-    handed _ c.from_residual.result fault c.from_residual.ensures.1
-    (one_refused (known_in c.args.prepared.now) c.args.definitions.now c.loop-definition.definition-index c.definition-item.result c.in-Some.function.now
-    (omega arith) c.definition-item.is c.in-Some.ensures own fault (c.in_err-body.ensures.refused sound))
 
 pub returns-in_err-body-clause-told : goal.returns-in_err-body-clause-told
 returns-in_err-body-clause-told c = λ sound own run.

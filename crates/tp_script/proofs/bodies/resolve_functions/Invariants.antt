@@ -2,8 +2,7 @@
 use Rattle.std.proofs.Common.{take}
 use Rattle.std.specs.List.{AllZip}
 use Rattle.tp_checks.specs.Definitions.{of_kind, function_of}
-use Rattle.tp_script.specs.Instances.{known_in}
-use Rattle.tp_script.specs.Scopes.{IsFunctionBody}
+use Rattle.tp_script.specs.{Instances.known_in, Scopes.IsFunctionBody}
 use Rattle.tp_script.proofs.bodies.resolve_functions.Given as goal
 
 abbrev pub invariant-loop-definition : goal.invariant-loop-definition

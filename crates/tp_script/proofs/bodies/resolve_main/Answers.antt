@@ -1,21 +1,11 @@
 -- A test case whose body is refused has none.
 use Rattle.std.proofs.Common.{[], refl}
 use Rattle.tp_checks.specs.declared.scope.BehaviourKind.TheVariants as behaviour_kind
-use Rattle.tp_script.specs.Instances.{known_in}
-use Rattle.tp_script.proofs.RefusedBodiesInScopes.{body_refused}
-use Rattle.tp_checks.specs.Refused.{Tells}
+use Rattle.tp_checks.specs.{Scoping.visible_in, Refused.Tells}
+use Rattle.tp_script.specs.{Instances.known_in, BrokenModules.MainBreaks}
 use Rattle.tp_checks.proofs.ModuleFaultPropagation.{handed}
-use Rattle.tp_script.specs.BrokenModules.{MainBreaks}
 use Rattle.tp_script.proofs.ModuleFaultsTold.{body_told}
 use Rattle.tp_script.proofs.bodies.resolve_main.Goals as goal
-
-pub returns-clause-refused : goal.returns-clause-refused
-returns-clause-refused c = λ sound.
-    let case = c.args.prepared.now.case.case.now in
-    body_refused (known_in c.args.prepared.now) behaviour_kind.TestCase behaviour_kind.TestCase c.as_str-runs_on.result.now case.runs_on
-    c.new-parameters.result [] c.in_ok-scope.scope c.as_slice.result.now case.variables c.as_slice-2.result.now case.statements c.resolve_body.result
-    refl c.as_str-runs_on.ensures c.new-parameters.ensures.empty c.as_slice.ensures c.as_slice-2.ensures sound c.in_ok-scope.ensures.scope
-    c.resolve_body.ensures.refused
 
 pub returns-in_err-scope-clause-told : goal.returns-in_err-scope-clause-told
 returns-in_err-scope-clause-told c = λ sound can.
@@ -28,6 +18,6 @@ returns-clause-told c = λ sound can.
     let p = c.args.prepared.now in
     let case = p.case.case.now in
     body_told (known_in p) behaviour_kind.TestCase behaviour_kind.TestCase c.as_str-runs_on.result.now case.runs_on c.new-parameters.result []
-    p.case.line c.in_ok-scope.scope c.as_slice.result.now case.variables c.as_slice-2.result.now case.statements c.resolve_body.result refl
+    p.case.line (visible_in c.in_ok-scope.scope) c.as_slice.result.now case.variables c.as_slice-2.result.now case.statements c.resolve_body.result refl
     c.as_str-runs_on.ensures c.new-parameters.ensures.empty c.as_slice.ensures c.as_slice-2.ensures sound c.in_ok-scope.ensures.scope
     c.resolve_body.ensures.told

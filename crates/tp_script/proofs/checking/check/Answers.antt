@@ -1,17 +1,13 @@
 -- What the passes made is the test case of a module that obeys the rules, and can be executed.
 use Rattle.std.proofs.Common.{◌≤◌, sym, subst}
 use Rattle.std.specs.List.{AllZip}
-use Rattle.tp_checks.specs.Definitions.{functions}
-use Rattle.tp_script.specs.Scopes.{IsMainBody, IsFunctionBody}
-use Rattle.tp_script.specs.TestCases.{IsTestCaseOf, size_of_test_case}
+use Rattle.tp_checks.specs.{Definitions.functions, Refused.Tells, Broken.DeclarationsBreak}
+use Rattle.tp_script.specs.{Scopes.IsMainBody, Scopes.IsFunctionBody, TestCases.IsTestCaseOf, TestCases.size_of_test_case}
+use Rattle.tp_script.specs.BrokenModules.{ModuleBreaks, declarations}
 use Rattle.tp_script.proofs.TestCaseFromPasses.{kinds, known_is, test_case_of}
 use Rattle.tp_script.proofs.ExecutableTestCases.{ready}
-use Rattle.tp_checks.specs.Refused.{Tells}
-use Rattle.tp_checks.specs.Broken.{DeclarationsBreak}
-use Rattle.tp_checks.proofs.ModuleFaultPropagation.{handed}
-use Rattle.tp_script.specs.BrokenModules.{ModuleBreaks, declarations}
+use Rattle.tp_checks.proofs.{ModuleFaultPropagation.handed, RuleFaultPropagation.told_on}
 use Rattle.tp_script.proofs.checking.check.Goals as goal
-use Rattle.tp_checks.proofs.RuleFaultPropagation.{told_on}
 
 -- the module obeys the rules, so that its test case can be executed
 pub assemble-requires : goal.assemble-requires

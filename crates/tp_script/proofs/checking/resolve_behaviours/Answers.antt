@@ -1,26 +1,27 @@
 -- Bodies that are refused, or a size, are those of a module that doesn't obey the rules.
-use Rattle.std.proofs.Common.{List, Option, inl, map, subst, sum, ◌≤◌}
-use Rattle.tp_checks.specs.Refused.{IsRefusedBy}
-use Rattle.tp_play.specs.Behaviours.{size_of_behaviour}
-use Rattle.tp_play.specs.Instances.{behaviour_of}
+use Rattle.std.proofs.Common.{List, Option, inl, map, subst, sum, ◌≤◌, ◌≡◌, ◌<◌}
+use Rattle.tp_checks.specs.Refused.{IsRefusedBy, Tells, TellsAt}
+use Rattle.tp_play.specs.{Behaviours.size_of_behaviour, Instances.behaviour_of}
 use Rattle.tp_play.specs.declared.instance.Instance.{Instance}
-use Rattle.tp_checks.proofs.ModuleRefusalPropagation.{handed_on}
-use Rattle.tp_script.proofs.SoundBodyScopes.{sound_known}
+use Rattle.tp_checks.proofs.{ModuleRefusalPropagation.handed_on, ModuleFaultPropagation.handed, ModuleFaultPropagation.tells_memory}
+use Rattle.tp_checks.proofs.RuleFaultPropagation.{broken_from}
+use Rattle.tp_script.proofs.{SoundBodyScopes.sound_known, BrokenBodyExclusions.bodies_excluded}
 use Rattle.tp_script.proofs.PreparedModulesKeepRules.{are_few, has_bodies, is_small}
-use Rattle.std.proofs.Common.{◌≡◌, ◌<◌}
-use Rattle.tp_checks.specs.Refused.{Tells, TellsAt}
-use Rattle.tp_checks.specs.declared.fault.ModuleRule.TheVariants as module_rule
-use Rattle.tp_checks.proofs.ModuleFaultPropagation.{handed, tells_memory}
-use Rattle.tp_script.specs.BrokenModules.{ModuleBreaks}
 use Rattle.tp_script.proofs.ModuleFaultsTold.{all_run, bodies_told, main_runs, size_told}
+use Rattle.tp_checks.specs.declared.fault.ModuleRule.TheVariants as module_rule
+use Rattle.tp_script.specs.{BrokenModules.BodiesBreak, BrokenModules.ModuleBreaks, Instances.known_in, TestCases.WellFormed}
 use Rattle.tp_script.proofs.checking.resolve_behaviours.Goals as goal
 
 pub returns-in_err-bodies-clause-refused : goal.returns-in_err-bodies-clause-refused
 returns-in_err-bodies-clause-refused c = λ of rules.
     let m = c.args.parsed.now in
+    let p = c.args.prepared.now in
     let own = rules.names.inner in
-    handed_on c.from_residual.result c.in_err-bodies.field-0.0 c.from_residual.ensures.1
-    (c.in_err-bodies.ensures.refused (sound_known m c.args.prepared.now of own) own) (has_bodies m c.args.prepared.now of rules)
+    let sound = sound_known m p of own in
+    handed _ c.from_residual.result c.in_err-bodies.field-0.0 c.from_residual.ensures.1
+    (broken_from (BodiesBreak (known_in p) p.case.case.now p.case.line m.definitions) (WellFormed m) c.in_err-bodies.field-0.0
+    (λ rule line b whole. bodies_excluded (known_in p) sound p.case.case.now p.case.line m.definitions rule line b (has_bodies m p of rules whole))
+    (c.in_err-bodies.ensures.told sound own (main_runs m p of rules) (all_run m p of rules)))
 
 pub returns-in_err-instances-clause-refused : goal.returns-in_err-instances-clause-refused
 returns-in_err-instances-clause-refused c = λ of rules.

@@ -1,6 +1,5 @@
 -- The component of the next variable has the next number.
-use Rattle.std.proofs.Common.{◌∙◌, ap, map}
-use Rattle.std.proofs.lemmas.List.{map_push}
+use Rattle.std.proofs.{Common.◌∙◌, Common.ap, Common.map, lemmas.List.map_push}
 use Rattle.tp_script.proofs.ComponentInstanceGrowth.{numbers_more}
 use Rattle.tp_script.proofs.instances.add_variables.Goals as goal
 

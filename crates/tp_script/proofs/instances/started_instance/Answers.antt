@@ -1,7 +1,6 @@
 -- The component has the body of the function that its start names, and the arguments of this start.
 use Rattle.std.proofs.Common.{◌+◌, map, sym, subst, length, refl}
-use Rattle.tp_script.specs.Behaviours.{AreReferences}
-use Rattle.tp_script.specs.Instances.{started}
+use Rattle.tp_script.specs.{Behaviours.AreReferences, Instances.started}
 use Rattle.tp_script.proofs.instances.started_instance.Goals as goal
 
 pub returns-clause-instance : goal.returns-clause-instance

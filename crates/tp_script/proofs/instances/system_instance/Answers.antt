@@ -1,7 +1,6 @@
 -- The test system interface has the body of `sut`, or none where no function has that name.
 use Rattle.std.proofs.Common.{◌+◌, ◌∙◌, [], ap, map, sym, subst, length, refl}
-use Rattle.tp_script.specs.Behaviours.{AreReferences}
-use Rattle.tp_script.specs.Instances.{system, nobody}
+use Rattle.tp_script.specs.{Behaviours.AreReferences, Instances.system, Instances.nobody}
 use Rattle.tp_script.proofs.instances.system_instance.Goals as goal
 
 pub returns-in_default-clause-instance : goal.returns-in_default-clause-instance

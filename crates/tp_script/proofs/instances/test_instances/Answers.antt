@@ -1,10 +1,8 @@
 -- `mtc` has the test case's own body, and the next component does what its start says.
 use Rattle.std.proofs.Common.{◌≡◌, ◌+◌, ◌++◌, ◌∷◌, [], ◌∙◌, Some, ap, map, sym, subst, length, slice_get, arith}
+use Rattle.std.proofs.{lemmas.List.length_push, lemmas.Option.slice_get-get_or}
 use Rattle.std.specs.List.{slice_index_or}
-use Rattle.std.proofs.lemmas.List.{length_push}
-use Rattle.std.proofs.lemmas.Option.{slice_get-get_or}
-use Rattle.tp_script.specs.Behaviours.{AreReferences}
-use Rattle.tp_script.specs.Instances.{IsInstance, main}
+use Rattle.tp_script.specs.{Behaviours.AreReferences, Instances.IsInstance, Instances.main}
 use Rattle.tp_script.proofs.ComponentInstanceGrowth.{instances_none, instances_more}
 use Rattle.tp_script.proofs.instances.test_instances.Goals as goal
 

@@ -1,11 +1,7 @@
 -- What is counted stays below the limit, so that no more statements are to be carried out.
-use Rattle.std.proofs.Common.{◌≡◌, ◌∙◌, inr, ap, map, sum, arith}
-use Rattle.tp_play.specs.Sizes.{capped, size_of_body}
-use Rattle.tp_play.specs.Behaviours.{size_of_behaviour}
-use Rattle.tp_play.specs.Instances.{behaviour_of}
-use Rattle.tp_script.proofs.SumOfComponentSizes.{sums, few, many}
-use Rattle.std.proofs.Common.{refl}
-use Rattle.tp_script.proofs.ModuleFaultsTold.{above}
+use Rattle.std.proofs.Common.{◌≡◌, ◌∙◌, inr, ap, map, sum, arith, refl}
+use Rattle.tp_play.specs.{Sizes.capped, Sizes.size_of_body, Behaviours.size_of_behaviour, Instances.behaviour_of}
+use Rattle.tp_script.proofs.{SumOfComponentSizes.sums, SumOfComponentSizes.few, SumOfComponentSizes.many, ModuleFaultsTold.above}
 use Rattle.tp_script.proofs.total.check_size.Goals as goal
 
 pub returns-clause-few : goal.returns-clause-few
