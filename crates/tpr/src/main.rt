@@ -1,10 +1,9 @@
-//! `tpr`: message ports of TTCN-3, replayed, checked, run, traced, judged and decided. Each mode
-//! has a function for what is read, what is printed, and the status: [`modes`], [`checking`],
-//! [`running`], [`judging`], [`deciding`]. Start with `answer`, which calls them. Module
-//! [`verdicts`] finds every verdict of a test case.
+//! The program `tpr`. Each mode has a function, whose contract says what is read, what is printed,
+//! and the status: [`modes`], [`checking`], [`running`], [`judging`], [`deciding`]. Start with
+//! `answer`, which calls them. Module [`verdicts`] finds every verdict of a test case.
 //!
 //! In each mode 50 `Memory` is the line `fault 50 Memory` and the status 3. A mode returns `None`
-//! if the writer failed: it has then printed a front of one of its answers, and the status is 3.
+//! if the writer failed: it has then printed a prefix of one of its answers, and the status is 3.
 #![tactic(auto)]
 
 ghost use Rattle.std.specs.Prelude.{◌≡◌};
