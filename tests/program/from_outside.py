@@ -351,7 +351,7 @@ def signal_while_running(number: signal.Signals) -> Callable[[Program, str], Non
         with open(path, "w", encoding="ascii") as file:
             file.write(WAITS_LONG)
         with started(program, mode, path, stdin=subprocess.DEVNULL) as process:
-            wait_until(lambda: threads_of(process) >= 3, "both threads run")
+            wait_until(lambda: threads_of(process) >= 2, "both threads run")
             must(must_be_ended_by(number, process) == b"", "it printed something")
 
     return sent

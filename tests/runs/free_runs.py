@@ -30,6 +30,8 @@ from examples import is_report, names, reports, script
 from refusing import NO_MEMORY, NO_THREAD, Wrong, must, run
 
 AGAIN, AGAIN_OF_ALL_WAIT, BESIDE_A_LOAD, AGAIN_OF_POLLING = 50, 1000, 20, 30
+# The status with which the loader ends.
+NOT_LOADED = 127
 MOST_KIB, STEP_KIB, AROUND_KIB = 1 << 20, 32, 800
 LONG_SCRIPT, SMALL_STACK = 1 << 20, 128 << 10
 
@@ -92,11 +94,13 @@ def load() -> Iterator[list[subprocess.Popen[bytes]]]:
             it.wait()
 
 
-def within(program: str, name: str, kib: int) -> tuple[bool, bool]:
-    """Runs an example that may map this much memory. Returns whether it reported, and whether it was refused memory."""
+def within(program: str, name: str, kib: int) -> tuple[bool, bool, bool]:
+    """Runs an example that may map this much memory. Returns whether it reported, whether it was refused memory, and
+    whether the system could load the program at all."""
     most = (kib << 10, kib << 10)
     ran = run([program, "run", script(name)], lambda: resource.setrlimit(resource.RLIMIT_AS, most))
-    return is_report(ran, reports(name)), ran.is_fault(NO_MEMORY) or ran.is_fault(NO_THREAD)
+    is_refused = ran.is_fault(NO_MEMORY) or ran.is_fault(NO_THREAD)
+    return is_report(ran, reports(name)), is_refused, ran.status != NOT_LOADED
 
 
 def in_little_memory(program: str, name: str) -> int:
@@ -107,10 +111,10 @@ def in_little_memory(program: str, name: str) -> int:
         middle = (low + high) // 2
         low, high = (low, middle) if within(program, name, middle)[0] else (middle, high)
     found = {kib: within(program, name, kib) for kib in range(high - AROUND_KIB, high + AROUND_KIB, STEP_KIB)}
-    for kib, (reported, refused) in found.items():
-        if not reported and not refused:
+    for kib, (reported, refused, loaded) in found.items():
+        if loaded and not reported and not refused:
             raise Wrong(f"where {kib} KiB may be mapped there is neither a report nor a refusal")
-    refusals = sum(refused for _, refused in found.values())
+    refusals = sum(refused for _, refused, _ in found.values())
     if refusals in (0, len(found)):
         raise Wrong(f"{refusals} refusals in {len(found)} runs in little memory")
     return len(found)
