@@ -169,8 +169,9 @@ def links_into_a_shared_library(room: Room, compilers: tuple[str, str]) -> Optio
 
 
 def programs_of_page() -> list[tuple[str, str, str]]:
-    """The programs of docs/EMBEDDING.md, each with its language and its expected output. Each is also a file."""
-    form = re.compile(r"^```(c|cpp)\n(.*?)^```\n\n(?:It prints `(.*?)`\.)?", re.M | re.S)
+    """The programs of docs/EMBEDDING.md, each with its language and the lines that it prints, as in "It prints `first`,
+    then `second`." Each is also a file."""
+    form = re.compile(r"^```(c|cpp)\n(.*?)^```\n\n(?:It prints (`[^`]*`(?:, then `[^`]*`)*)\.)?", re.M | re.S)
     return [it for it in form.findall(PAGE.read_text(encoding="utf-8")) if "int main" in it[1]]
 
 
@@ -194,7 +195,8 @@ def try_page(room: Room) -> None:
         is_same = (ROOT / "embedding" / f"soup.{kind}").read_text(encoding="utf-8") == text
         room.tell(f"embedding/soup.{kind} is the program of the page", None if is_same else "it isn't")
         status, said = room.run(["sh", "-c", f"{commands.get(kind, 'false')} && ./soup"], more)
-        is_so = status == 0 and said == wanted.replace(r"\n", "\n") + "\n"
+        lines = "".join(f"{line}\n" for line in re.findall("`([^`]*)`", wanted))
+        is_so = status == 0 and said == lines
         room.tell(f"the program {number} of the page, in {kind}", None if is_so else f"status {status}: {said[:1000]}")
 
 
