@@ -6,7 +6,8 @@ use Rattle.tp_syntax.specs.declared.script_fault.ScriptFault.{ScriptFault}
 use Rattle.tp_syntax.specs.declared.script_fault.ScriptFault.TheVariants.{Refused}
 use Rattle.tp_syntax.specs.declared.token.Symbol.{Symbol}
 use Rattle.tp_syntax.specs.declared.token.Symbol.TheVariants.{LeftBrace, RightBrace, LeftParen, RightParen, LeftBracket}
-use Rattle.tp_syntax.specs.declared.token.Symbol.TheVariants.{RightBracket, Minus}
+use Rattle.tp_syntax.specs.declared.token.Symbol.TheVariants.{RightBracket, Comma, Semicolon, Colon, Dot, Question}
+use Rattle.tp_syntax.specs.declared.token.Symbol.TheVariants.{Star, Minus, Less, Plus, DotDot, Assign, Arrow}
 use Rattle.tp_syntax.specs.Lexeme.{Lexeme, number, symbol, PlacedLexeme}
 use Rattle.tp_syntax.specs.declared.faults.Bracket.{Bracket}
 use Rattle.tp_syntax.specs.declared.faults.Bracket.TheVariants.{Opens, Closes, Neither}
@@ -19,7 +20,18 @@ symbol_bracket LeftParen = Opens
 symbol_bracket RightParen = Closes
 symbol_bracket LeftBracket = Opens
 symbol_bracket RightBracket = Closes
-symbol_bracket _ = Neither
+symbol_bracket Comma = Neither
+symbol_bracket Semicolon = Neither
+symbol_bracket Colon = Neither
+symbol_bracket Dot = Neither
+symbol_bracket Question = Neither
+symbol_bracket Star = Neither
+symbol_bracket Minus = Neither
+symbol_bracket Less = Neither
+symbol_bracket Plus = Neither
+symbol_bracket DotDot = Neither
+symbol_bracket Assign = Neither
+symbol_bracket Arrow = Neither
 
 -- whether it is a `-`
 abbrev pub is_minus : Lexeme → Bool
