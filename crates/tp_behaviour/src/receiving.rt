@@ -136,7 +136,7 @@ pub(crate) fn fill_guards(
     Ok(guards)
 }
 
-// Most operations name none: inlined, this and the next are a test, and nothing is made for them.
+// Most operations redirect nothing: inlined, this and `keep_message` cost them only a test.
 #[inline(always)]
 fn keep(variables: &mut Vec<Option<Held>>, place: Option<usize>, held: Held)
     requires { IfSome place (λ k. k < length variables.old.items) }

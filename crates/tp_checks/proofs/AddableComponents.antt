@@ -55,7 +55,7 @@ module _ (types ports : List (List ℕ)) (most : ℕ) (before more : List Creati
       map-append variable_name before (c ∷ more) ∙ ap (λ l. l ++ variable_name c ∷ map variable_name more) (sym named)
       ∙ sym (append_assoc names (variable_name c ∷ []) (map variable_name more))
 
-  -- each variable is sound behind those before it
+  -- each variable is sound after those before it
   pub sound_one : (names : List (List ℕ)) → names ≡ map variable_name before → length (before ++ c ∷ more) ≤ 64
       → HasSoundVariables types ports most (before ++ c ∷ more) → IsSoundVariable types ports names most c
   sound_one names named small sound =
@@ -83,7 +83,7 @@ pub names_created : (xs : List Creation) → map (λ (x : Declared). x.name) (ma
 names_created [] = refl
 names_created (c ∷ xs) = ap (λ l. variable_name c ∷ l) (names_created xs)
 
--- where all can be added, each can behind those before it
+-- where all can be added, each can after those before it
 pub can_one : (types : List (List ℕ)) (before more : List Creation) (c : Creation) (old now : Setup) → Contains types c.type_name
     → CanAddAll types (map variable_name (before ++ c ∷ more)) old → AddsAll types (map created before) old now → CanAdd types (created c) now
 can_one types before more c old now known can added =

@@ -39,7 +39,7 @@ module _ (scope : Visible) where
   pub variables_fixed : (xs : List Variable) (vs ws : Variables) → AreVariables scope xs vs → AreVariables scope xs ws → vs ≡ ws
   variables_fixed xs vs ws a b = variables_as a b refl
 
-  -- what the rule says of a variable behind these
+  -- what the rule says of a variable after these
   pub record Next (xs : List Variable) (vs : Variables) (x : Variable) : Type 0 where
     pub few : length vs.names < 4294967295
     pub held : VariableType

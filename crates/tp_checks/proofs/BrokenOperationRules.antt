@@ -21,7 +21,7 @@ only_named scope variables turns c.SelfComponent none = absurd (none 1 d.itself)
 only_named scope variables turns (c.Named n) none = (n, refl)
 
 module _ (scope : Visible) (variables : Variables) (turns : List (List ℕ)) (line : ℕ) (f : ModuleFault) where
-  -- what is told of a name behind `from` that is no reference
+  -- what is told of a name after `from` that is no reference
   pub no_reference_told : (x : ComponentName) (n : List ℕ) → x ≡ c.Named n → ((k : ℕ) → IsReference scope variables turns x k → ⊥)
       → (Contains variables.names n × (f ≡ module_fault.Refused rule.WrongType line))
       ⊎ ((Contains variables.names n → ⊥) × (f ≡ module_fault.Refused rule.Unknown line))
@@ -30,7 +30,7 @@ module _ (scope : Visible) (variables : Variables) (turns : List (List ℕ)) (li
   no_reference_told x n e none (inr h) =
       rw e (told_rule _ _ _ f h.1 (b.from_nobody n h.0 (subst (λ y. (k : ℕ) → IsReference scope variables turns y k → ⊥) e none)))
 
-  -- what is told of a component behind `to` that is none
+  -- what is told of a component after `to` that is none
   pub nobody_told : (x : ComponentName) → ((n : List ℕ) → x ≡ c.Named n → IsAbsent turns n → Contains variables.names n → ⊥)
       → ((k : ℕ) → IsReference scope variables turns x k → ⊥) → f ≡ module_fault.Refused rule.Unknown line
       → TellsAt line (ReceiverBreaks scope variables turns (Some (destination.Component x))) f
@@ -39,7 +39,7 @@ module _ (scope : Visible) (variables : Variables) (turns : List (List ℕ)) (li
   nobody_told (c.Named n) no_variable none is = told_rule _ _ _ f is (b.to_nobody n (no_variable n refl) none)
 
 module _ (scope : Visible) (variables : Variables) (turns : List (List ℕ)) where
-  -- a name behind `to` that a variable has
+  -- a name after `to` that a variable has
   pub variable_told : (n : List ℕ) → IsAbsent turns n → Contains variables.names n → {r : ModuleRule}
       → NamesNoComponent scope variables turns n r
       → ReceiverBreaks scope variables turns (Some (destination.Component (c.Named n))) r

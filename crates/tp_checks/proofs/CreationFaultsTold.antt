@@ -65,7 +65,7 @@ module _ (types ports others names : List (List ℕ)) (most : ℕ) (c : Creation
         length-map s.components (λ (m : Member). m.name),
       ))
 
--- the room that is left behind the components of some statements
+-- the room that is left after the components of some statements
 pub room_more : (types ports others names : List (List ℕ)) (most : ℕ) (before : List Creation) (start now : Setup) → names ≡ map variable_name before
     → HasSoundVariables types ports most before → AddsAll types (map created before) start now → HasRoomForVariables types others [] most start
     → HasRoomForVariables types others names most now

@@ -23,7 +23,7 @@ module _ (types ports components : List (List ℕ)) (system : Option (List ℕ))
             (λ h. let few : HasFewPorts (d.Component c) = subst HasFewPorts e h in omega (arith, few, many.1)),
       )
 
-  -- the next definition breaks a rule behind those before it
+  -- the next definition breaks a rule after those before it
   pub definition_among : (xs : List Definition) (i : ℕ) (x : Definition) (f : ModuleFault) → i < length xs → x ≡ get_or xs i x
       → All (λ (y : Definition). IsSound types ports components system y.defined) (take i xs)
       → TellsAt x.line (DefinitionBreaks types ports components system x.defined) f → Tells (DefinitionsBreak types ports components system xs) f

@@ -53,7 +53,7 @@ pub flat_more : {A B : Type 0} (f : A → List B) (xs : List A) (i : ℕ) (x : A
     → flat_map f (take (i + 1) xs) ≡ flat_map f (take i xs) ++ f x
 flat_more f xs i x lt is = ap (flat_map f) (sym (pushed xs i x lt is)) ∙ sym (flat_map_more f [] (take i xs) x)
 
--- another list, and the items up to the next one behind it
+-- another list, and the items up to the next one after it
 pub behind_more : {A : Type 0} (before xs : List A) (i : ℕ) (x : A) → i < length xs → x ≡ get_or xs i x
     → (before ++ take i xs) ++ x ∷ [] ≡ before ++ take (i + 1) xs
 behind_more before xs i x lt is = append_assoc before (take i xs) (x ∷ []) ∙ ap (λ l. before ++ l) (pushed xs i x lt is)

@@ -8,7 +8,7 @@ use Rattle.tp_checks.specs.BrokenNames.{DeclaringBreaks, NameBreaks, port_name_l
 use Rattle.tp_checks.proofs.{DistinctNamesInParts.map_twice, ListPrefixGrowth.pushed}
 use Rattle.tp_checks.proofs.RuleFaultPropagation.{told_from, told_on}
 
--- what stands before and behind an item
+-- what stands before and after an item
 pub split_here : {A : Type 0} (xs : List A) (i : ℕ) (x : A) → i < length xs → x ≡ get_or xs i x → xs ≡ take i xs ++ x ∷ drop (i + 1) xs
 split_here xs i x lt is =
     sym (take-append-drop (i + 1) xs) ∙ ap (λ l. l ++ drop (i + 1) xs) (sym (pushed xs i x lt is)) ∙ append_assoc (take i xs) (x ∷ []) (drop (i + 1) xs)
@@ -18,7 +18,7 @@ pub map_same : {A : Type 0} (xs : List A) → map (λ x. x) xs ≡ xs
 map_same [] = refl
 map_same (x ∷ xs) = ap (λ l. x ∷ l) (map_same xs)
 
--- one of the names, behind those before it
+-- one of the names, after those before it
 pub name_among : {A : Type 0} (g : A → DeclaredName) (old names : List (List ℕ)) (xs : List A) (i : ℕ) (x : A) (f : ModuleFault) → i < length xs
     → x ≡ get_or xs i x → names ≡ old ++ map (λ y. declared (g y)) (take i xs) → IsNumbered names
     → TellsAt (g x).line (NameBreaks names (declared (g x))) f → Tells (DeclaringBreaks old (map g xs)) f

@@ -1,4 +1,4 @@
--- What stands behind the parts of an operation that obeys its rule.
+-- What the rule says of the parts of an operation that obeys it.
 use Rattle.std.proofs.Common.{◌⊎◌, inl, inr, ◌≡◌, ℕ, List, Option, Some, None, Contains, refl, sym, ap, subst}
 use Rattle.tp_value.specs.declared.types.Ty.{Ty}
 use Rattle.tp_value.specs.declared.types.Ty.TheVariants as ty
@@ -102,7 +102,7 @@ verdict_means b.pass = tt
 verdict_means b.inconc = tt
 verdict_means b.fail = tt
 
--- what is wanted has one type, so the variable behind `value` serves whatever it stands for
+-- what is wanted has one type, so the variable after `value` serves whatever it stands for
 module _ (scope : Visible) (variables : Variables) (turns : List (List ℕ)) (receivable : List Ty) where
   same_type : {x : Option MessageTemplate} {y : RecvMsg} → IsWanted scope turns receivable x y → (t : MessageTemplate) (u : Ty) → x ≡ Some t
       → IsType scope.types t.type_name u → (r : RecvTemplate) × (y ≡ wanted.Of u r)

@@ -41,7 +41,7 @@ module _ (xs : List SetupStatement) (i : ℕ) (x : SetupStatement) (lt : i < len
       ∙ map-append variable_name (creations (take (i + 1) xs)) (creations (drop (i + 1) xs)) in
       subst IsNumbered (sym more) (numbered_first (variables (take (i + 1) xs)) (variables (drop (i + 1) xs)) (subst IsNumbered rest own))
 
-  -- the next statement breaks a rule behind those before it
+  -- the next statement breaks a rule after those before it
   pub pair_among : (system : Option ℕ) (start s : Setup) (f : ModuleFault) → Makes system start (take i xs) s
       → TellsAt x.line (PairBreaks s names system x.action) f → Tells (PairsBreak system start xs) f
   pair_among system start s f makes told =

@@ -5,7 +5,7 @@ use Rattle.std.proofs.lemmas.List.{get_or_append_left, get_or-set_other, length-
 use Rattle.std.proofs.lemmas.List.Elements.{Contains-push, Contains-append_left}
 use Rattle.std.proofs.lemmas.Option.{slice_get-get_or, slice_get_within, get_or_from_slice_get}
 
--- an element of a list with one more behind it
+-- an element of a list with one more after it
 pub push_cases : {A : Type 0} (xs : List A) (y : A) (i : ℕ) (k : A) → slice_get (xs ++ y ∷ []) i ≡ Some k
     → (slice_get xs i ≡ Some k) ⊎ ((i ≡ length xs) × (k ≡ y))
 push_cases xs y i k there = by (cases_lt i (length xs)) where

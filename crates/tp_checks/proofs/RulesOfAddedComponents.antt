@@ -88,7 +88,7 @@ module _ (names : List (List ℕ)) (made : List (List PortDecl)) (case : TestCas
       (ap (λ l. map created (creations l)) split ∙ ap (map created) (filter_map-append creation_of before rest)
       ∙ map-append created (creations before) (creations rest))
 
-  -- the test components can be added behind `mtc`
+  -- the test components can be added after `mtc`
   pub all_can : HavePorts names made → (s : Setup) → length (creations case.setups) ≤ most_variables case
       → AddsAll names (main_component case ∷ []) (empty_setup made) s → CanAddAll names (variables case.setups) s
   all_can have s few added =
@@ -110,7 +110,7 @@ module _ (names : List (List ℕ)) (made : List (List PortDecl)) (case : TestCas
         );
       }
 
-  -- the test system interface can be added behind the first of them
+  -- the test system interface can be added after the first of them
   pub interface_can : HavePorts names made → (s : Setup) → length (creations case.setups) ≤ most_variables case → (before rest : List SetupStatement)
       → case.setups ≡ before ++ rest → AddsAll names (main_component case ∷ map created (creations before)) (empty_setup made) s
       → All (λ x. CanAdd names x s) (interface case)
@@ -185,7 +185,7 @@ number_is names case old s system none added number =
       length-map (creations case.setups) created,
     ))
 
--- behind `mtc`, the components of the first of the setup statements
+-- after `mtc`, the components of the first of the setup statements
 pub has_first : (names : List (List ℕ)) (case : TestCase) (setups before : List SetupStatement) (old s : Setup) → setups ≡ case.setups
     → AddsAll names (main_component case ∷ []) (empty_setup old.types) old → HasStopped names setups before old s → HasFirst names case before s
 has_first names case setups before old s statements main stopped = record {
@@ -195,7 +195,7 @@ has_first names case setups before old s statements main stopped = record {
       (adds_append names (main_component case ∷ []) (map created (creations before)) (empty_setup old.types) old s main stopped.added);
 }
 
--- a test case that can be set up has sound variables, whose components can be added behind `mtc`
+-- a test case that can be set up has sound variables, whose components can be added after `mtc`
 pub beside_can : (names ports : List (List ℕ)) (made : List (List PortDecl)) (case : TestCase) (s : Setup) (setups : List SetupStatement) (most : ℕ)
     → setups ≡ case.setups → most ≡ most_variables case → HavePorts names made
     → AddsAll names (main_component case ∷ []) (empty_setup made) s → CanSetUpBeside names ports made case

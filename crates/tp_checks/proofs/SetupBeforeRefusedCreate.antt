@@ -19,7 +19,7 @@ abbrev behind : List Member → ℕ → ℕ
 behind [] i = i
 behind (m ∷ ms) i = suc (behind ms i)
 
--- the place of an item, where ms stand behind xs
+-- the place of an item, where ms stand after xs
 abbrev shift : List Member → List Member → ℕ → ℕ
 shift [] ms i = behind ms i
 shift (x ∷ xs) ms zero = zero

@@ -55,7 +55,7 @@ ports_there types names name named known =
     let r = named_one (λ (c : ComponentType). c.name) types name (subst (λ l. Contains l name) named known) in
     (declared_ports r.0.ports, record { component = r.0; there = r.1; named = r.2; ports_are = refl })
 
--- there is room for the components of a test case behind `mtc`
+-- there is room for the components of a test case after `mtc`
 pub room_first : (names : List (List ℕ)) (case : TestCase) (types : List (List PortDecl)) (s : Setup) (most : ℕ) → HavePorts names s.types
     → AddsAll names (main_component case ∷ []) (empty_setup types) s → most ≡ most_variables case → HasRoomForVariables names (codes "mtc" ∷ []) [] most s
 room_first names case types s most have main limit = record {
@@ -75,7 +75,7 @@ module _ (names ports : List (List ℕ)) (types : List (List PortDecl)) (case : 
   count_first =
       omega (arith, ap length names_first, length-map first.components (λ (m : Member). m.name), length-map (creations made) variable_name)
 
-  -- the test system interface can be added behind them, but for its name
+  -- the test system interface can be added after them, but for its name
   pub awaits : HavePorts names types → AreComponentTypesKnown names (defined.TestCase case) → AwaitsInterface names case first
   awaits have known = record {
     typed = have.typed ∙ ap length (sym added.types_stay);

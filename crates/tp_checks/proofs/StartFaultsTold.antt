@@ -1,4 +1,4 @@
--- A start that breaks a rule, and what is left behind the last one.
+-- A start that breaks a rule, and what is left after the last one.
 use Rattle.std.proofs.Common.{All, Contains, List, Some, [], ap, arith, drop, get_or, length, map, refl, slice_get, subst, sym, take, ℕ, ◌+◌, ◌<◌, ◌∷◌, ◌≡◌, ◌≢◌}
 use Rattle.std.proofs.{lemmas.List.length-map, lemmas.List.Elements.All-cons, lemmas.List.Elements.All-nil, lemmas.Option.slice_get_read}
 use Rattle.std.proofs.lemmas.Slice.Zip.{AllZip-long}
@@ -16,7 +16,7 @@ use Rattle.tp_checks.proofs.{ListPrefixGrowth.contains_at, RuleFaultPropagation.
 use Rattle.tp_checks.specs.declared.starts.StartedComponent.{StartedComponent}
 use Rattle.tp_checks.specs.BrokenStarts as b
 
--- one of the arguments breaks a rule behind those before it
+-- one of the arguments breaks a rule after those before it
 pub argument_among : (names types : List (List ℕ)) (ps : List Parameter) (xs : List ComponentName) (i : ℕ) (p : Parameter) (x : ComponentName)
     (made : List CompId) (at : ℕ) (f : ModuleFault) → length xs ≡ length ps → i < length xs → p ≡ get_or ps i p → x ≡ get_or xs i x
     → AllZip (IsArgument names) (take i xs) made → AllZip (HasParameterType types) (take i ps) made → TellsAt at (ArgumentBreaks names types p x) f
@@ -34,7 +34,7 @@ start_function functions names x place f named placed there = record {
   named = named_at names (λ (f : Function). f.name) functions x.function place f named placed there;
 }
 
--- a start breaks a rule behind those before it
+-- a start breaks a rule after those before it
 pub start_among : (functions : List Function) (names types : List (List ℕ)) (xs : List ComponentStart) (i : ℕ) (x : ComponentStart)
     (started : List (List ℕ)) (made : List StartedComponent) (f : ModuleFault) → i < length xs → x ≡ get_or xs i x
     → AllZip (IsStartOf functions names types) (take i xs) made → started ≡ started_names (take i xs) → IsNumbered started

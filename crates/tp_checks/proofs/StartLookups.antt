@@ -25,7 +25,7 @@ named_there f xs names name x named there is =
 pub all_got : {A : Type 0} (P : A → Type 0) (xs : List A) (k : ℕ) (x : A) → All P xs → slice_get xs k ≡ Some x → P x
 all_got P xs k x each e = subst P (get_or_from_slice_get xs k x x e) (each k x (slice_get_within xs k x e))
 
--- the place behind that of a component variable
+-- the place after that of a component variable
 pub place_behind : (o : Option ℕ) (k n : ℕ) → o ≡ Some k → option_map (λ k. k + 1) o ≡ Some n → n ≡ k + 1
 place_behind o k n e f = sym (same_Some (k + 1) n (sym (ap (option_map (λ k. k + 1)) e) ∙ f))
 
@@ -77,7 +77,7 @@ item_there f xs names name place named placed none =
 
 module _ (xs : List SetupStatement) (i : ℕ) (x : SetupStatement) (lt : i < length xs) (is : x ≡ get_or xs i x) (c : Creation)
     (this : Some c ≡ creation_of x) where
-  -- a component that is made, among those before it and those behind it
+  -- a component that is made, among those before it and those after it
   pub creation_among : creations xs ≡ creations (take i xs) ++ c ∷ creations (drop (i + 1) xs)
   creation_among =
       ap creations (sym (take-append-drop (i + 1) xs)) ∙ filter_map-append creation_of (take (i + 1) xs) (drop (i + 1) xs)

@@ -1,4 +1,4 @@
--- What stands behind the parts of a statement that obeys its rule.
+-- What the rule says of the parts of a statement that obeys it.
 use Rattle.std.proofs.Common.{◌≡◌, ◌≢◌, ℕ, List, [], ◌∷◌, ◌++◌, Some, None, refl}
 use Rattle.std.specs.List.{AllZip}
 use Rattle.tp_value.specs.declared.verdict.Verdict.{Verdict}
@@ -48,7 +48,7 @@ module _ (scope : Visible) (variables : Variables) where
   ruled (d.alt_else turns xs ys e otherwise h inner) = rw a.outs-Alt (ys, h, otherwise, inner, refl)
   ruled (d.counted turns x block new h) = rw a.outs-For (new, block, h, refl)
 
-  -- what the rule says of what stands behind an operation, by its layer
+  -- what the rule says of what stands after an operation, by its layer
   abbrev pub AfterMeans : List (List ℕ) → o.BranchBody-F Action BranchBody BranchText Counted ElseBranch StatementText → List ResolvedStatement → Type 0
   AfterMeans turns o.Nothing ys = ys ≡ []
   AfterMeans turns (o.Block xs) ys = IsBlock scope variables turns xs ys

@@ -33,7 +33,7 @@ module _ (xs : List Definition) (i : ℕ) (x : Definition) (lt : i < length xs) 
       subst (λ l. Contains l x) (pushed xs i x lt is)
       (length (take i xs), omega (arith, length_push (take i xs) x), get_or_push (take i xs) x x (length (take i xs)) refl)
 
-  -- where the test case begins that was found, behind one more definition
+  -- where the test case begins that was found, after one more definition
   pub begins_more : (before after : Option CaseAt) → Begins (take i xs) before
       → (after ≡ before) ⊎ IfSome after (λ found. (case_of x.defined ≡ Some found.case.now) × (found.line ≡ x.line)) → Begins (take (i + 1) xs) after
   begins_more None after b (inl same) = rw same tt

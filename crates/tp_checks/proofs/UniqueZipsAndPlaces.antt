@@ -13,7 +13,7 @@ module _ {A B : Type 0} (R : A → B → Type 0) where
   zip_here (a ∷ xs) (b ∷ ys) zero x each lt is = (b, subst (λ z. R z b) (sym is) each.0)
   zip_here (a ∷ xs) (b ∷ ys) (suc i) x each lt is = zip_here xs ys i x each.1 (omega (arith, lt)) is
 
-  -- what agrees with two lists, one behind the other
+  -- what agrees with two lists, one after the other
   pub zip_split : (xs more : List A) (zs : List B) → AllZip R (xs ++ more) zs
       → (us : List B) × (vs : List B) × (zs ≡ us ++ vs) × AllZip R xs us × AllZip R more vs
   zip_split [] more zs each = ([], zs, refl, tt, each)
@@ -92,7 +92,7 @@ same_named f xs x y apart here there e =
     let same = once (map f xs) (f x) i.0 j.0 apart (slice_get-map f xs i.0 ∙ ap (option_map f) i.1) (slice_get-map f xs j.0 ∙ ap (option_map f) j.1 ∙ ap Some (sym e)) in
     same_Some x y (sym i.1 ∙ ap (slice_get xs) same ∙ j.1)
 
--- a name that stands once behind others is none of them
+-- a name that stands once after others is none of them
 pub not_before : (names more : List (List ℕ)) (name : List ℕ) → AreDistinct (names ++ name ∷ more) → Contains names name → ⊥
 not_before names more name apart (k, below, is) =
     apart k (length names) name below (omega (arith, length-append names (name ∷ more)))

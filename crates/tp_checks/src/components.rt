@@ -44,8 +44,9 @@ pub(crate) fn add_component(
     ensures err { OnErr result (config.new ≡ config.old) }
     ensures refused { IfErr result (IsRefusedBy (
         CanAdd types.now (declared_as component.now) config.old)) }
-    ensures told { length types.now ≡ length config.old.types → IfErr result (TellsAt
-        component.now.line (AdditionBreaks types.now (declared_as component.now) config.old)) }
+    ensures told { length types.now ≡ length config.old.types
+        → IfErr result (TellsAt component.now.line
+        (AdditionBreaks types.now (declared_as component.now) config.old)) }
 {
     let Some(kind) = types.find(component.type_name) else {
         return Err(refused(ModuleRule::Unknown, component.line));

@@ -152,8 +152,10 @@ fn add_setup<'m>(
         × IsStep config.old known.old (component_number system) setup.now.action t)
         × IsNumbered (known.old
         ++ option_to_list (option_map variable_name (creation_of setup.now))))) }
-    ensures told { IsNumbered known.old → IsNumbered (known.old ++ option_to_list
-        (option_map variable_name (creation_of setup.now))) → IfErr result (TellsAt setup.now.line
+    ensures told { IsNumbered known.old
+        → IsNumbered (known.old
+        ++ option_to_list (option_map variable_name (creation_of setup.now)))
+        → IfErr result (TellsAt setup.now.line
         (PairBreaks config.old known.old (component_number system) setup.now.action)) }
 {
     let line = setup.line;
@@ -265,8 +267,9 @@ fn create_beside(
         (map created (creations case.entry.case.now.setups)) config.old config.new) }
     ensures refused { HavePorts types.now config.old.types → IfErr result (IsRefusedBy (
         CanSetUpBeside types.now ports.now config.old.types case.entry.case.now)) }
-    ensures told { HavePorts types.now config.old.types → AreComponentTypesKnown types.now
-        (Defined.TestCase case.entry.case.now) → IfErr result (Tells
+    ensures told { HavePorts types.now config.old.types
+        → AreComponentTypesKnown types.now (Defined.TestCase case.entry.case.now)
+        → IfErr result (Tells
         (SetupBreaks types.now ports.now config.old.types case.entry.case.now case.entry.line)) }
 {
     let rules = VariableRules {
@@ -292,12 +295,13 @@ fn create_all(
     ensures sound { OnOk result (in_sorted AreSoundVariables sorted.now case.entry.case.now) }
     ensures added { OnOk result (AddsAll sorted.now.component_names
         (map created (creations case.entry.case.now.setups)) config.old config.new) }
-    ensures refused { AreOwnPorts (component_types_in sorted.now) config.old.types → IfErr result
-        (IsRefusedBy (in_sorted CanSetUp sorted.now config.old.types case.entry.case.now)) }
+    ensures refused { AreOwnPorts (component_types_in sorted.now) config.old.types
+        → IfErr result (IsRefusedBy
+        (in_sorted CanSetUp sorted.now config.old.types case.entry.case.now)) }
     ensures told { AreOwnPorts (component_types_in sorted.now) config.old.types
         → AreComponentTypesKnown sorted.now.component_names (Defined.TestCase case.entry.case.now)
-        → IfErr result (Tells (in_sorted
-        CaseSetupBreaks sorted.now config.old.types case.entry.case.now case.entry.line)) }
+        → IfErr result (Tells (in_sorted CaseSetupBreaks sorted.now config.old.types
+        case.entry.case.now case.entry.line)) }
 {
     let runs_on = case.case.runs_on.as_str();
     let ports = ports_of_type(alloc, sorted, runs_on, case.line)?;
@@ -312,16 +316,17 @@ fn add_components(
 ) -> Result<(), ModuleFault>
     requires named { AreComponentsNamed sorted.now }
     requires empty { config.old ≡ empty_setup config.old.types }
-    ensures added { OnOk result
-        (AddsAll sorted.now.component_names (main_component case.entry.case.now ∷ map created
-        (creations case.entry.case.now.setups)) config.old config.new) }
+    ensures added { OnOk result (AddsAll sorted.now.component_names
+        (main_component case.entry.case.now
+        ∷ map created (creations case.entry.case.now.setups)) config.old config.new) }
     ensures sound { OnOk result (in_sorted AreSoundVariables sorted.now case.entry.case.now) }
-    ensures refused { AreOwnPorts (component_types_in sorted.now) config.old.types → IfErr result
-        (IsRefusedBy (in_sorted CanSetUp sorted.now config.old.types case.entry.case.now)) }
+    ensures refused { AreOwnPorts (component_types_in sorted.now) config.old.types
+        → IfErr result (IsRefusedBy
+        (in_sorted CanSetUp sorted.now config.old.types case.entry.case.now)) }
     ensures told { AreOwnPorts (component_types_in sorted.now) config.old.types
         → AreComponentTypesKnown sorted.now.component_names (Defined.TestCase case.entry.case.now)
-        → IfErr result (Tells (in_sorted
-        CaseSetupBreaks sorted.now config.old.types case.entry.case.now case.entry.line)) }
+        → IfErr result (Tells (in_sorted CaseSetupBreaks sorted.now config.old.types
+        case.entry.case.now case.entry.line)) }
 {
     let main = DeclaredComponent {
         name: "mtc",
@@ -346,12 +351,13 @@ fn configure<'m>(
     ensures variables { IfOk result (λ known. known ≡ variables case.entry.case.now.setups) }
     ensures numbered { IfOk result (λ known. IsNumbered known) }
     ensures sound { OnOk result (in_sorted AreSoundVariables sorted.now case.entry.case.now) }
-    ensures refused { AreOwnPorts (component_types_in sorted.now) config.old.types → IfErr result
-        (IsRefusedBy (in_sorted CanSetUp sorted.now config.old.types case.entry.case.now)) }
+    ensures refused { AreOwnPorts (component_types_in sorted.now) config.old.types
+        → IfErr result (IsRefusedBy
+        (in_sorted CanSetUp sorted.now config.old.types case.entry.case.now)) }
     ensures told { AreOwnPorts (component_types_in sorted.now) config.old.types
         → AreComponentTypesKnown sorted.now.component_names (Defined.TestCase case.entry.case.now)
-        → IfErr result (Tells (in_sorted
-        CaseSetupBreaks sorted.now config.old.types case.entry.case.now case.entry.line)) }
+        → IfErr result (Tells (in_sorted CaseSetupBreaks sorted.now config.old.types
+        case.entry.case.now case.entry.line)) }
 {
     add_components(alloc, &mut *config, sorted, case)?;
     let types = &sorted.component_names;

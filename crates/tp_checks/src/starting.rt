@@ -68,8 +68,9 @@ fn check_argument(
     ensures refused { IsNumbered variables.now → IfErr result (IsRefusedBy ((comp : CompId)
         × IsArgument variables.now argument.now comp
         × HasParameterType (map (λ t. t.now) types.now) parameter.now comp)) }
-    ensures told { IsNumbered variables.now → IfErr result (TellsAt line (
-        ArgumentBreaks variables.now (map (λ t. t.now) types.now) parameter.now argument.now)) }
+    ensures told { IsNumbered variables.now
+        → IfErr result (TellsAt line (ArgumentBreaks variables.now
+        (map (λ t. t.now) types.now) parameter.now argument.now)) }
 {
     let Some(comp) = find_argument(variables, argument) else {
         return Err(refused(ModuleRule::Unknown, line));
@@ -94,8 +95,9 @@ fn check_arguments(
     ensures refused { IsNumbered variables.now → IfErr result (IsRefusedBy ((made : List CompId)
         × AllZip (IsArgument variables.now) start.now.arguments made
         × AllZip (HasParameterType (map (λ t. t.now) types.now)) parameters.now made)) }
-    ensures told { IsNumbered variables.now → IfErr result (TellsAt start.now.line (ArgumentsBreak
-        variables.now (map (λ t. t.now) types.now) parameters.now start.now.arguments)) }
+    ensures told { IsNumbered variables.now
+        → IfErr result (TellsAt start.now.line (ArgumentsBreak variables.now
+        (map (λ t. t.now) types.now) parameters.now start.now.arguments)) }
 {
     let arguments = start.arguments.as_slice();
     if arguments.len() != parameters.len() {
@@ -119,8 +121,9 @@ fn check_start(
     requires { AreFunctionsNamed sorted.now }
     ensures start { IfOk result (IsStartOf (functions_in sorted.now) variables.now
         (map (λ t. t.now) types.now) start.now) }
-    ensures refused { IsNumbered variables.now → IfErr result (IsRefusedBy (
-        (made : StartedComponent) × IsStartOf (functions_in sorted.now) variables.now
+    ensures refused { IsNumbered variables.now
+        → IfErr result (IsRefusedBy ((made : StartedComponent)
+        × IsStartOf (functions_in sorted.now) variables.now
         (map (λ t. t.now) types.now) start.now made)) }
     ensures told { (started : List (List ℕ)) → IsNumbered variables.now
         → (Contains started start.now.component → ⊥)
@@ -242,15 +245,19 @@ fn check_each<'m>(
     starts: &'m [ComponentStart],
 ) -> Result<(NameSet<'m>, Vec<StartedComponent>), ModuleFault>
     requires { AreFunctionsNamed sorted.now }
-    ensures started { IfOk result (λ r. AllZip (IsStartOf (functions_in sorted.now) variables.now
-        (map (λ t. t.now) types.now)) starts.now r.1.items) }
+    ensures started { IfOk result (λ r. AllZip
+        (IsStartOf (functions_in sorted.now) variables.now (map (λ t. t.now) types.now))
+        starts.now r.1.items) }
     ensures names { IfOk result (λ r. r.0 ≡ started_names starts.now) }
     ensures numbered { IfOk result (λ r. IsNumbered r.0) }
-    ensures refused { IsNumbered variables.now → IfErr result (IsRefusedBy
-        ((made : List StartedComponent) × AllZip (IsStartOf (functions_in sorted.now) variables.now
-        (map (λ t. t.now) types.now)) starts.now made × IsNumbered (started_names starts.now))) }
-    ensures told { IsNumbered variables.now → IfErr result (Tells (StartBreaksAmong
-        (functions_in sorted.now) variables.now (map (λ t. t.now) types.now) starts.now)) }
+    ensures refused { IsNumbered variables.now
+        → IfErr result (IsRefusedBy ((made : List StartedComponent)
+        × AllZip (IsStartOf (functions_in sorted.now) variables.now (map (λ t. t.now) types.now))
+        starts.now made
+        × IsNumbered (started_names starts.now))) }
+    ensures told { IsNumbered variables.now
+        → IfErr result (Tells (StartBreaksAmong (functions_in sorted.now) variables.now
+        (map (λ t. t.now) types.now) starts.now)) }
 {
     let mut names = NameSet::new(alloc);
     let mut started = Vec::new(alloc);
@@ -269,15 +276,19 @@ fn start_all<'m>(
     names: &NameSet,
 ) -> Result<(NameSet<'m>, Vec<StartedComponent>), ModuleFault>
     requires { AreFunctionsNamed sorted.now }
-    ensures started { IfOk result (λ r. AllZip (IsStartOf
-        (functions_in sorted.now) names.now (type_names_of case.now)) case.now.starts r.1.items) }
+    ensures started { IfOk result (λ r. AllZip
+        (IsStartOf (functions_in sorted.now) names.now (type_names_of case.now))
+        case.now.starts r.1.items) }
     ensures names { IfOk result (λ r. r.0 ≡ started_names case.now.starts) }
     ensures numbered { IfOk result (λ r. IsNumbered r.0) }
-    ensures refused { IsNumbered names.now → IfErr result (IsRefusedBy ((made : List
-        StartedComponent) × AllZip (IsStartOf (functions_in sorted.now) names.now (type_names_of
-        case.now)) case.now.starts made × IsNumbered (started_names case.now.starts))) }
-    ensures told { IsNumbered names.now → IfErr result (Tells (StartBreaksAmong
-        (functions_in sorted.now) names.now (type_names_of case.now) case.now.starts)) }
+    ensures refused { IsNumbered names.now
+        → IfErr result (IsRefusedBy ((made : List StartedComponent)
+        × AllZip (IsStartOf (functions_in sorted.now) names.now (type_names_of case.now))
+        case.now.starts made
+        × IsNumbered (started_names case.now.starts))) }
+    ensures told { IsNumbered names.now
+        → IfErr result (Tells (StartBreaksAmong (functions_in sorted.now) names.now
+        (type_names_of case.now) case.now.starts)) }
 {
     let types = component_types(alloc, case)?;
     check_each(alloc, sorted, names, &types, case.starts.as_slice())
@@ -288,9 +299,11 @@ fn place_starts(alloc: Global, started: &NameSet, case: CaseAt<'_>) -> Result<Ve
         (variables case.entry.case.now.setups) places.items) }
     ensures done { OnOk result (0 < length (creations case.entry.case.now.setups)
         → IsSome case.entry.case.now.all_done) }
-    ensures refused { IfErr result (IsRefusedBy (((places : List ℕ) × AllZip
-        (IsStartPlace started.now) (variables case.entry.case.now.setups) places) × (0 < length
-        (creations case.entry.case.now.setups) → IsSome case.entry.case.now.all_done))) }
+    ensures refused { IfErr result (IsRefusedBy (
+        ((places : List ℕ)
+        × AllZip (IsStartPlace started.now) (variables case.entry.case.now.setups) places)
+        × (0 < length (creations case.entry.case.now.setups)
+        → IsSome case.entry.case.now.all_done))) }
     ensures told { IfErr result (Tells (
         AfterStartsBreaks started.now case.entry.case.now case.entry.line)) }
 {

@@ -157,8 +157,9 @@ fn next_case<'m>(
         ≡ cases_of before.entry ++ option_to_list (case_of definition.now.defined)) }
     ensures refused { IfErr result (λ _.
         1 < length (cases_of before.entry ++ option_to_list (case_of definition.now.defined))) }
-    ensures begins { IfOk result (λ after. (after ≡ before.entry) ⊎ IfSome after (λ found. (case_of
-        definition.now.defined ≡ Some found.case.now) × (found.line ≡ definition.now.line))) }
+    ensures begins { IfOk result (λ after. (after ≡ before.entry) ⊎ IfSome after (λ found.
+        (case_of definition.now.defined ≡ Some found.case.now)
+        × (found.line ≡ definition.now.line))) }
     ensures told { IfErr result (λ fault.
         fault ≡ ModuleFault.Refused ModuleRule.Duplicate definition.now.line) }
 {
@@ -194,8 +195,9 @@ fn check_name<'m>(
     ensures names { OnOk result (names.new ≡ names.old ++ name_of definition.now.defined ∷ []) }
     ensures numbered { OnOk result (IsNumbered names.new) }
     ensures inner { OnOk result (IsNumbered (inner_names definition.now.defined)) }
-    ensures refused { IfErr result (IsRefusedBy (IsNumbered (names.old ++ name_of
-        definition.now.defined ∷ []) × IsNumbered (inner_names definition.now.defined))) }
+    ensures refused { IfErr result (IsRefusedBy
+        (IsNumbered (names.old ++ name_of definition.now.defined ∷ [])
+        × IsNumbered (inner_names definition.now.defined))) }
     ensures told { IfErr result (Tells (GivenNamesBreak names.old definition.now)) }
 {
     if let Err(fault) = names.add(defined_name(&definition.defined)) {

@@ -118,8 +118,9 @@ pub fn resolve_variables<'m>(
 
 pub fn are_no_ports(scope: &Scope) -> bool
     ensures apart { IsTrue result ↔ AreNoPorts (visible_in scope.now) }
-    ensures twice { OnFalse result ((name : List ℕ) × Contains (ports_in
-        scope.now.component_type.now).names name × Contains scope.now.parameters.now name) }
+    ensures twice { OnFalse result ((name : List ℕ)
+        × Contains (ports_in scope.now.component_type.now).names name
+        × Contains scope.now.parameters.now name) }
 {
     for place in 0..scope.component_type.ports.len() {
         // The place is below the length, so there is one.

@@ -169,7 +169,7 @@ cause_refuses s a b fault.Directions h can =
     h (All-contains (MayConnect s.types s.components) (s.connected ++ (a, b) ∷ []) (a, b) can.1.may_connect (Contains-push s.connected (a, b))).directed
 cause_refuses s a b fault.Memory h can = h
 
--- the causes behind the first
+-- the causes after the first
 abbrev own_order : List ConnectFault
 own_order = fault.SamePort ∷ fault.Already ∷ fault.Mixed ∷ fault.TwoPortsOfOne ∷ fault.Directions ∷ []
 

@@ -195,7 +195,7 @@ module _ (made : Made) (report : Report) (order : List Spot) (h : IsReportOf mad
       one_place_of made report h r d y (so_much sent_at order i) (so_much (came_to d) y.desk.log b) put got (on_route made report h r b stamp env into from)
       here receiver one other refl refl refl
 
-  -- so what was sent up to a message has come before each place behind it
+  -- so what was sent up to a message has come before each place after it
   come_before : (r : RouteId) (i b place stamp : ℕ) (a : Spot) (env : Env Message) (m : Stamped) → r.to.comp ≡ d → env.sender ≡ r.source.0
       → slice_get y.desk.log b ≡ Some (entry.Arrive r.to.port stamp env) → b < place → IsAt order i a → entry_at_spot logs a ≡ Some (entry.Sent r env.number m)
       → IsFrontOf (all_sent_to logs d (take (i + 1) order)) (all_came_to d (take place y.desk.log))

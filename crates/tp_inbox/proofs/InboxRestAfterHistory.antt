@@ -1,4 +1,4 @@
--- What the rest of an inbox is, behind a history.
+-- What the rest of an inbox is, after a history.
 use Rattle.std.proofs.Common.{◌≡◌, ℕ, ◌<◌, List, [], ◌∷◌, ◌++◌, ap, ◌∙◌, refl, subst}
 use Rattle.std.specs.Prelude.{All}
 use Rattle.std.specs.List.{filter_map}

@@ -89,7 +89,7 @@ adding_nothing d = λ i. record { comp = d.comp; ports = d.ports; log = sym (app
 pub adding_twice : (d : Journal) (xs ys : List Entry) → adding_all (adding_all d xs) ys ≡ adding_all d (xs ++ ys)
 adding_twice d xs ys = λ i. record { comp = d.comp; ports = d.ports; log = append_assoc d.log xs ys i }
 
--- where arrivals come behind both, those of the desk are still what was drained
+-- where arrivals come after both, those of the desk are still what was drained
 pub arrivals_more : (d e : Journal) (drained now more : List Entry) → arrivals d.log ≡ drained → e ≡ adding_all d more → now ≡ drained ++ more
     → arrivals more ≡ more → arrivals e.log ≡ now
 arrivals_more d e drained now more was desk is same =

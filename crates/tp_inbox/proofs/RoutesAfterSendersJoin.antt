@@ -91,7 +91,7 @@ begun_at channel v sent all comp h is here =
     subst (λ (x : CompId × List Entry). AreBegun x.0 x.1 sent) (λ i. (here i, is i))
     (begun_each channel v.taken (routed_at channel v sent h) v.known sent h.known h.sound.fronts)
 
--- what was drained and the rest is what came, behind a history whose arrivals were drained
+-- what was drained and the rest is what came, after a history whose arrivals were drained
 came_all : (comp source : CompId) (all drained rest log : List Entry) → all ≡ drained ++ rest → arrivals log ≡ drained
     → arrived_from comp source (log ++ rest) ≡ arrived_from comp source all
 came_all comp source all drained rest log is same =

@@ -15,7 +15,7 @@ use Rattle.tp_judge.proofs.WaitsAfterDemandRemoval.{without, without_other, with
 use Rattle.tp_judge.proofs.WaitsAfterDemandRemoval.{waits_none, waits_less}
 
 -- the demands that are left are those whose first number isn't among the first `done` of the list,
--- but for those that have `x` first and stand at the place `at` or behind it
+-- but for those that have `x` first and stand at the place `at` or after it
 pub record IsPassing (demands : List Demand) (order : List ℕ) (left : ℕ → Bool) (done x at : ℕ)
     : Type 0 where
   pub here : IsNumberAt order done x
@@ -80,7 +80,7 @@ passing_less demands order left done x k p was next =
           without_other left k j other ∙ was.coming j (omega (arith, w, less)) is;
     }
 
--- a number is put behind the list
+-- a number is put at the end of the list
 passing_more : (demands : List Demand) (order : List ℕ) (left : ℕ → Bool) (done x at t : ℕ)
     → IsPassing demands order left done x at → IsPassing demands (order ++ t ∷ []) left done x at
 passing_more demands order left done x at t was = record {
@@ -147,7 +147,7 @@ taking_zero demands waits order done x k p was small next is =
       passing = passing_more demands order (without was.left k) done x p t passing;
     }
 
--- it waits for none, and is put behind the list
+-- it waits for none, and is put at the end of the list
 pub taking_more : (demands : List Demand) (waits order : List ℕ) (done x k p v : ℕ) → IsTaking demands waits order done x (k + 1)
     → after_at demands k < length waits → IsLast demands (before_at demands k) k p
     → slice_index waits (after_at demands k) ≡ v + 1 → v ≡ 0

@@ -24,7 +24,7 @@ free_still waits order t v was low some more = record {
       was.listed x (omega (arith, size, less)) (sym (get_or-set_other waits t x v 0 other) ∙ none);
 }
 
--- it waits for none, and is put behind the list
+-- it waits for none, and is put at the end of the list
 pub free_more : (waits order : List ℕ) (t : ℕ) → AreFree waits order → t < length waits
     → 0 < slice_index waits t → AreFree (set waits t 0) (order ++ t ∷ [])
 free_more waits order t was low some =

@@ -92,7 +92,7 @@ wanted_before trace delivered x y has = ⊎_elim
     (Contains-append_cases (from_each (section_demands trace) trace.components)
     (from_each (route_demands trace) (length trace.joined.items)) (record { before = x; after = y }) has)
 
--- what the demands lead to happens behind
+-- what the demands lead to happens later
 pub leads_before : (trace : IndexedTrace) → Delivered trace → (further x y : ℕ) → LeadsThrough (demands_of trace) further x y
     → LineHappensBefore trace x y
 leads_before trace delivered zero x y wanted = wanted_before trace delivered x y wanted
@@ -134,7 +134,7 @@ leads_on demands zero g x y z wanted then' = (suc g, (y, wanted, then'))
 leads_on demands (suc f) g x y z leads then' =
     let rest = leads_on demands f g leads.0 y z leads.2 then' in (suc rest.0, (leads.0, leads.1, rest.1))
 
--- to what happens behind the demands lead
+-- to what happens later the demands lead
 pub before_leads : (trace : IndexedTrace) → Delivered trace → (x y : ℕ) → LineHappensBefore trace x y
     → (further : ℕ) × LeadsThrough (demands_of trace) further x y
 before_leads trace delivered x y (earlier component j k a b below order at end) =

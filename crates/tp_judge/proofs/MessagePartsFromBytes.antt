@@ -7,7 +7,7 @@ use Rattle.tp_judge.specs.LineTexts.{Letter, IsLetter, contents, letter_text}
 use Rattle.tp_judge.specs.Read.{contents_text}
 use Rattle.tp_judge.proofs.UniqueByteCuts.{first_only, lacks-append, lacks-decimal, lacks-graphic, lacks-port}
 
--- a number and what stands behind it
+-- a number and what stands after it
 pub contents_cut : (n : ℕ) (text word : List ℕ) (r : Option (List ℕ)) → n < 2 ^ 63 → lacks 32 word ≡ true
     → word ++ after_space r ≡ contents_text n text → (word ≡ decimal n) × (r ≡ Some text)
 contents_cut n text word r below lack e = first_only word (decimal n) r (Some text) lack (lacks-decimal n below) e
@@ -23,7 +23,7 @@ pub sent_cut : (letter : Letter) (place : List ℕ) (r : Option (List ℕ)) → 
 sent_cut letter place r is lack e =
     first_only place (letter.component ++ (46 ∷ letter.port)) r (Some (contents letter)) lack (place_lacks letter is) e
 
--- behind any other word: the port, and then the component
+-- after any other word: the port, and then the component
 pub port_cut : (letter : Letter) (port : List ℕ) (r : Option (List ℕ)) → IsLetter letter → lacks 32 port ≡ true
     → port ++ after_space r ≡ letter_text fate.Came letter
     → (port ≡ letter.port) × (r ≡ Some (letter.component ++ (32 ∷ contents letter)))

@@ -1,4 +1,4 @@
--- Where numbers stand in a list once one more is put behind it.
+-- Where numbers stand in a list once one more is put at its end.
 use Rattle.std.proofs.Common.{◌≡◌, ◌⊎◌, inl, inr, ℕ, zero, suc, ◌<◌, List, [], ◌∷◌, ◌++◌, length, refl, sym, ap, ◌∙◌}
 use Rattle.std.proofs.lemmas.Option.{same_Some, slice_get_within}
 use Rattle.tp_judge.specs.Order.{IsNumberAt}

@@ -56,7 +56,7 @@ Numbered-first tolds t here lines trace same none empty = record {
   few = let most = names_few tolds in omega (arith, none);
 }
 
--- behind the result stands nothing
+-- after the result stands nothing
 nothing_behind : (tolds : List Told) (place : ℕ) (word : List ℕ) → IsTrace tolds → slice_get tolds place ≡ Some (resulted word)
     → (told : Told) → slice_get tolds (place + 1) ≡ Some told → ⊥
 nothing_behind tolds place word trace at told e =

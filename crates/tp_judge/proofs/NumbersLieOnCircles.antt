@@ -17,7 +17,7 @@ Reaches demands x y = (x ≡ y) ⊎ DemandsLead demands x y
 leads_then : (demands : List Demand) (x y z : ℕ) → DemandsLead demands x y → DemandsLead demands y z → DemandsLead demands x z
 leads_then demands x y z first second = leads_on demands first.0 second.0 x y z first.1 second.1
 
--- from a number of the circle to one behind it
+-- from a number of the circle to one after it
 along : (demands : List Demand) (circle : List ℕ) → IsCircle demands circle → (more k : ℕ) → k + more < length circle
     → Reaches demands (slice_index circle k) (slice_index circle (k + more))
 unfolding Reaches

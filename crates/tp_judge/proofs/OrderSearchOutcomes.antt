@@ -1,4 +1,4 @@
--- What follows once no more numbers can be put behind the list.
+-- What follows once no more numbers can be put at the end of the list.
 use Rattle.std.proofs.Common.{◌≡◌, inl, inr, ℕ, zero, suc, ◌<◌, ◌≤◌, ◌==◌, ◌&&◌, Bool, true, List, length, refl, sym}
 use Rattle.std.proofs.Common.{subst, slice_index, All, arith}
 use Rattle.std.proofs.lemmas.Bool.{and_parts, cases_lt, eqb-true, true≢false}

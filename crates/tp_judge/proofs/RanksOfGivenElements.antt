@@ -91,7 +91,7 @@ from_front (y ∷ xs) (suc i) (suc j) x at =
     let below = rest.0 in
     (omega arith, rest.1)
 
--- an element that gives something counts for those behind it
+-- an element that gives something counts for those after it
 pub rank_rises : {X Y : Type 0} (f : X → Option Y) (xs : List X) (i j : ℕ) (x : X) (y : Y) → i < j → slice_get xs i ≡ Some x
     → f x ≡ Some y → rank_of f xs i < rank_of f xs j
 rank_rises f xs i j x y below at gives =

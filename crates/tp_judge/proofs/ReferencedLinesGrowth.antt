@@ -18,7 +18,7 @@ seen-append : (xs ys : List (Bor IndexedLine)) → lines_at (xs ++ ys) ≡ lines
 seen-append [] ys = refl
 seen-append (x ∷ xs) ys = ap (λ l. x.now ∷ l) (seen-append xs ys)
 
--- what one line more gives stands behind what those before it give
+-- what one line more gives stands after what those before it give
 pub filter_map-more : {Y : Type 0} (f : IndexedLine → Option Y) (xs : List (Bor IndexedLine)) (i : ℕ) (d : Bor IndexedLine) → i < length xs
     → filter_map f (lines_at (take (i + 1) xs)) ≡ filter_map f (lines_at (take i xs)) ++ option_to_list (f (get_or xs i d).now)
 filter_map-more f xs i d within =

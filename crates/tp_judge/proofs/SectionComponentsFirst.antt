@@ -1,4 +1,4 @@
--- The components: those of the sections first, and the others behind them.
+-- The components: those of the sections first, and the others after them.
 use Rattle.std.proofs.Common.{◌≡◌, ◌≢◌, inl, inr, ℕ, zero, suc, ◌+◌, ◌-◌, Some, List, [], ◌∷◌, ◌++◌, length, get_or}
 use Rattle.std.proofs.Common.{slice_get, nat_lt, Contains, refl, ap, sym, ◌∙◌, subst, arith, zero-add}
 use Rattle.std.specs.Prelude.{◌↔◌, AllPairs, IsTrue}
@@ -18,7 +18,7 @@ section_there names name n e =
     let p = position-Some (bytes_eq name) names n name (sym e) in
     slice_get-get_or names n name p.0 ∙ ap Some (sym ((bytes_eq-Decides name (get_or names n name)).0 p.1))
 
--- what stands behind other names
+-- what stands after other names
 pub there_behind : {X : Type 0} (xs ys : List X) (k : ℕ) (y : X) → slice_get ys k ≡ Some y → slice_get (xs ++ ys) (length xs + k) ≡ Some y
 there_behind [] ys k y e = ap (slice_get ys) (zero-add k) ∙ e
 there_behind (x ∷ xs) ys k y e =

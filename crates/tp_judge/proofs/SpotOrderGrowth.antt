@@ -14,7 +14,7 @@ use Rattle.tp_judge.specs.OneOrder.{IsAt, IsFrontOf, IsOrderOf}
 use Rattle.tp_judge.specs.Kinds.{IsOwn, Kinds, Spot, came_in, came_of, histories_of, is_own, kind_at, sent_by, sent_from}
 use Rattle.tp_judge.specs.OrderProgress.{IsBegun, IsGone, MayComeNext}
 
--- where spots stand in an order once one more is put behind it
+-- where spots stand in an order once one more is put at its end
 at_still : (xs : List Spot) (y : Spot) (i : ℕ) (x : Spot) → IsAt xs i x → IsAt (xs ++ y ∷ []) i x
 at_still [] y i x at = absurd (cc)
 at_still (z ∷ xs) y zero x at = at
@@ -120,7 +120,7 @@ module _ {M : Type 0} (kinds : Kinds M) where
             whole_of xs ys (out c) (size ∙ looks is) ∙ same;
       }
 
-  -- it is put behind the order
+  -- it is put at the end of the order
   pub gone_own : (at came out at' out' : ℕ → ℕ) (order : List Spot) (c : ℕ) (e : EntryKind M) → IsGone kinds at came out order
       → kind_at kinds (spot c (at c)) ≡ Some e → is_own e ≡ true → (e ≡ kind.Looked → came c ≡ out c)
       → at' c ≡ at c + 1 → ((x : ℕ) → (x ≡ c → ⊥) → at' x ≡ at x)

@@ -1,4 +1,4 @@
--- Lines behind lines.
+-- Lines after lines.
 use Rattle.std.proofs.Common.{◌≡◌, ℕ, zero, suc, ◌+◌, ◌-◌, ◌<◌, ◌≤◌, ◌⊎◌, inl, inr, Some, List, [], ◌∷◌, ◌++◌, length}
 use Rattle.std.proofs.Common.{take, map, refl, ap, sym, ◌∙◌, subst, arith, append_assoc, append-nil}
 use Rattle.std.specs.Prelude.{slice_get, All}
@@ -94,7 +94,7 @@ get_after : {X : Type 0} (xs ys : List X) (y : X) → slice_get (xs ++ y ∷ ys)
 get_after [] ys y = refl
 get_after (x ∷ xs) ys y = get_after xs ys y
 
--- a line that may not stand behind those that were taken is the first bad one
+-- a line that may not stand after those that were taken is the first bad one
 pub first_bad_here : (text rest next line : List ℕ) (lines names : List (List ℕ)) (place : TracePosition) (n : ℕ)
     → Taken text rest lines names place → lines_of rest ≡ line ∷ lines_of next → n ≡ length lines + 1
     → ((told : Told) → Spells line told → MayStandAt place names told → ⊥) → IsFirstBad (lines_of text) n

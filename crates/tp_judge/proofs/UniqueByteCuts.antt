@@ -35,7 +35,7 @@ lacks-append c [] b p q = q
 lacks-append c (x ∷ a) b p q =
     let h = both_true (not (x == c)) (lacks c a) p in and_true (not (x == c)) (lacks c (a ++ b)) h.0 (lacks-append c a b h.1 q)
 
--- the first word of a line, and what stands behind it, are determined
+-- the first word of a line, and what stands after it, are determined
 pub first_only : (a b : List ℕ) (r s : Option (List ℕ)) → lacks 32 a ≡ true → lacks 32 b ≡ true → a ++ after_space r ≡ b ++ after_space s
     → (a ≡ b) × (r ≡ s)
 first_only [] [] None None p q e = (refl, refl)
@@ -58,7 +58,7 @@ first_only (x ∷ a) (y ∷ b) r s p q e =
     let k = first_only a b r s (both_true (not (x == 32)) (lacks 32 a) p).1 (both_true (not (y == 32)) (lacks 32 b) q).1 t in
     (ap (λ z. z ∷ a) h ∙ ap (λ l. y ∷ l) k.0, k.1)
 
--- what stands before and behind the last `.` is determined
+-- what stands before and after the last `.` is determined
 pub last_only : (a b c d : List ℕ) → lacks 46 b ≡ true → lacks 46 d ≡ true → a ++ (46 ∷ b) ≡ c ++ (46 ∷ d) → (a ≡ c) × (b ≡ d)
 last_only [] b [] d p q e = (refl, cc)
 last_only [] b (z ∷ c) d p q e =

@@ -61,7 +61,7 @@ found (verb.Remark remark.Verdict) = refl
 found verb.End = refl
 found verb.Result = refl
 
--- what stands behind a first word, or nothing
+-- what stands after a first word, or nothing
 abbrev rest_of : Option (List ℕ) → List ℕ
 rest_of None = []
 rest_of (Some rest) = rest

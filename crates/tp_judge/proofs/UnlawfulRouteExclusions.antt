@@ -29,7 +29,7 @@ same_lists (x ∷ xs) (y ∷ ys) agree short =
     ap (λ z. z ∷ xs) same
     ∙ ap (λ l. y ∷ l) (same_lists xs ys (λ k below. agree (suc k) (omega arith)) (omega arith))
 
--- a number that is none of the first, and that nothing has behind them
+-- a number that is none of the first, and that nothing has after them
 never_here : (sent came : List IndexedLine) (n : ℕ) (p : Parcel) → AreParcelsNumbered (parcels sent) → AgreesBelow sent came n → n ≤ p.number
     → NoNumberFrom came n p.number → NeverCame came p
 never_here sent came n p numbered agree large later = λ j q at. ⊎_elim
@@ -37,7 +37,7 @@ never_here sent came n p numbered agree large later = λ j q at. ⊎_elim
     (λ (high : n ≤ j). later j q high at)
     (cases_lt j n)
 
--- a parcel whose place another took that was sent later, and that never comes behind that
+-- a parcel whose place another took that was sent later, and that never comes after that
 pub lost_overtaken : (sent came : List IndexedLine) (k : ℕ) (p : Parcel) (place : UnlawfulPlace) → AreParcelsNumbered (parcels sent) → AgreesBelow sent came k
     → place.rule ≡ rule.Lost → IsPlaceOfLine sent k place → ParcelAt sent k p → NoNumberFrom came k k → IsOvertaken sent came k
     → IsWrongAt sent came k place
@@ -46,7 +46,7 @@ lost_overtaken sent came k p place numbered agree is told there later overtaken 
     let none = subst (NoNumberFrom came k) (sym number) later in
     lost p is told there (never_here sent came k p numbered agree (omega arith) none) (inr overtaken)
 
--- a parcel behind all that came
+-- a parcel after all that came
 pub lost_behind : (sent came : List IndexedLine) (k : ℕ) (p : Parcel) (place : UnlawfulPlace) → AreParcelsNumbered (parcels sent) → AgreesBelow sent came k
     → place.rule ≡ rule.Lost → IsPlaceOfLine sent k place → ParcelAt sent k p → ((j : ℕ) (q : Parcel) → ParcelAt came j q → j < k)
     → IsUnlawfulRoute sent came place
@@ -84,7 +84,7 @@ first_arrival sent came n k number p numbered agree large at is none = record {
       (cases_lt j n);
 }
 
--- what was sent where another took its place came behind that
+-- what was sent where another took its place came after that
 pub record IsLater (came : List IndexedLine) (k m : ℕ) (p q : Parcel) : Type 0 where
   pub later : k < m
   pub first : IsFirstArrival came p.number m q

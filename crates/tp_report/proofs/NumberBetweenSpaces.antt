@@ -2,7 +2,7 @@
 use Rattle.std.proofs.Common.{◌≡◌, ℕ, ◌+◌, ◌-◌, ◌<◌, ◌≤◌, List, [], ◌∷◌, ◌++◌, length, take, drop, replicate, get_or, ap, sym, ◌∙◌, arith, length-drop}
 use Rattle.std.proofs.lemmas.List.{drop_more, get_or-replicate, get_or-take, take_all}
 
--- what stands at a place and behind it, where all up to there is as before
+-- what stands at a place and after it, where all up to there is as before
 from_there : (k j : ℕ) (new old rest : List ℕ) → k + 1 ≡ j → k < length new → take j new ≡ take j old → drop j new ≡ rest
     → drop k new ≡ get_or old k 0 ∷ rest
 from_there k j new old rest next within before behind =

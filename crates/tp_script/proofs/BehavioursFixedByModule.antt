@@ -86,14 +86,14 @@ module _ (m : Module) (apart : AreDistinct (definition_names m)) (known : Known)
       inr (inr (inl (record { does = x; function = f; number = number; there = there; named = named; body = is; references = refs; is = refl })))
   at starts k o (d.nobody n number absent) = inr (inr (inr (record { number = number; absent = absent; is = refl })))
 
-  -- the test system interface stands behind the components that are made
+  -- the test system interface stands after the components that are made
   behind_created : (k : ℕ) → interface_number case ≡ Some k → length (creations case.setups) + 1 ≡ k
   behind_created k e = by case.system e where
     by : (o : Option (List ℕ)) → option_map (λ _. length (creations case.setups) + 1) o ≡ Some k → length (creations case.setups) + 1 ≡ k
     by None f = absurd (cc)
     by (Some s) f = same_Some (length (creations case.setups) + 1) k f
 
-  -- and these behind `mtc`
+  -- and these after `mtc`
   among_created : (starts : Starts) → AreStarts (functions m) case starts → (j place : ℕ) → slice_get starts.places.items j ≡ Some place → j < length (creations case.setups)
   among_created starts are j place e =
       let inside = slice_get_within starts.places.items j place e in

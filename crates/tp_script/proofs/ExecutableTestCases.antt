@@ -62,7 +62,7 @@ function_sound P xs f each =
     (all_among function_of (λ g. P (definition.Function g)) (λ (x : Definition). P x.defined)
     (λ x g e h. subst P (function_defined x.defined g e) h) xs each)
 
--- what stands at a place of two lists, one behind the other
+-- what stands at a place of two lists, one after the other
 left_at : {A : Type 0} (xs ys : List A) (k : ℕ) (x : A) → slice_get xs k ≡ Some x → slice_get (xs ++ ys) k ≡ Some x
 left_at [] ys k x e = by_none e
 left_at (a ∷ xs) ys zero x e = e
@@ -200,7 +200,7 @@ module _ (m : Module) (made : Made) (rules : IsWellDeclared m) (of : IsTestCaseO
         let long : length tested ≡ n = omega (arith, length-map (creations case.setups) created, same_Some (count + 1) n e) in
         (x, ap (slice_get (tested ++ x ∷ [])) (sym long) ∙ last_at tested x, same_Some s runs_on f)
 
-  -- a function named `sut` has no parameters, and runs on the type behind `system`
+  -- a function named `sut` has no parameters, and runs on the type after `system`
   plays_system : (f : Function) → Contains (functions m) f → f.name ≡ sut
       → (f.parameters ≡ []) × (case.system ≡ Some f.runs_on)
   plays_system f there named =

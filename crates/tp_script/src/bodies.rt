@@ -33,8 +33,9 @@ fn plays(function: &Function) -> BehaviourKind
 fn resolve_main(alloc: Global, prepared: &Prepared) -> Result<Body, ModuleFault>
     ensures body { IfOk result (IsMainBody (known_in prepared.now) prepared.now.case.case.now) }
     ensures told { IsSoundKnown (known_in prepared.now)
-        → CanRun (known_in prepared.now) prepared.now.case.case.now.runs_on → IfErr result (Tells
-        (MainBreaks (known_in prepared.now) prepared.now.case.case.now prepared.now.case.line)) }
+        → CanRun (known_in prepared.now) prepared.now.case.case.now.runs_on
+        → IfErr result (Tells (MainBreaks (known_in prepared.now) prepared.now.case.case.now
+        prepared.now.case.line)) }
 {
     let case = prepared.case.case;
     let line = prepared.case.line;
@@ -63,8 +64,9 @@ fn resolve_function<'m>(
     line: u32,
 ) -> Result<Body, ModuleFault>
     ensures body { IfOk result (IsFunctionBody (known_in prepared.now) function.now) }
-    ensures told { IsSoundKnown (known_in prepared.now) → IsNumbered (map (λ p. declared p.name)
-        function.now.parameters) → CanRun (known_in prepared.now) function.now.runs_on
+    ensures told { IsSoundKnown (known_in prepared.now)
+        → IsNumbered (map (λ p. declared p.name) function.now.parameters)
+        → CanRun (known_in prepared.now) function.now.runs_on
         → IfErr result (Tells (FunctionBreaks (known_in prepared.now) function.now line)) }
 {
     let parameters = parameter_names(alloc, function.parameters.as_slice())?;
@@ -86,9 +88,10 @@ fn resolve_functions<'m>(
 ) -> Result<Vec<Body>, ModuleFault>
     ensures bodies { IfOk result (λ bodies. AllZip (IsFunctionBody (known_in prepared.now))
         (of_kind function_of definitions.now) bodies.items) }
-    ensures told { IsSoundKnown (known_in prepared.now) → HaveOwnNames definitions.now
-        → CanAllRun (known_in prepared.now) definitions.now → IfErr result (
-        Tells (FunctionsBreak (known_in prepared.now) definitions.now)) }
+    ensures told { IsSoundKnown (known_in prepared.now)
+        → HaveOwnNames definitions.now
+        → CanAllRun (known_in prepared.now) definitions.now
+        → IfErr result (Tells (FunctionsBreak (known_in prepared.now) definitions.now)) }
 {
     let mut bodies = Vec::new(alloc);
     for definition in definitions {
@@ -116,10 +119,12 @@ pub fn resolve_bodies<'m>(
         IsMainBody (known_in prepared.now) prepared.now.case.case.now b.main) }
     ensures functions { IfOk result (λ b. AllZip (IsFunctionBody (known_in prepared.now))
         (functions parsed.now) b.functions.items) }
-    ensures told { IsSoundKnown (known_in prepared.now) → HaveOwnNames parsed.now.definitions
-        → CanRun (known_in prepared.now) prepared.now.case.case.now.runs_on → CanAllRun
-        (known_in prepared.now) parsed.now.definitions → IfErr result (Tells (BodiesBreak (known_in
-        prepared.now) prepared.now.case.case.now prepared.now.case.line parsed.now.definitions)) }
+    ensures told { IsSoundKnown (known_in prepared.now)
+        → HaveOwnNames parsed.now.definitions
+        → CanRun (known_in prepared.now) prepared.now.case.case.now.runs_on
+        → CanAllRun (known_in prepared.now) parsed.now.definitions
+        → IfErr result (Tells (BodiesBreak (known_in prepared.now) prepared.now.case.case.now
+        prepared.now.case.line parsed.now.definitions)) }
 {
     let main = resolve_main(alloc, prepared)?;
     let functions = resolve_functions(alloc, parsed.definitions.as_slice(), prepared)?;

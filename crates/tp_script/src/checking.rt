@@ -44,8 +44,11 @@ fn resolve_behaviours<'m>(
 }
 
 fn assemble(prepared: Prepared<'_>, behaviours: Behaviours) -> TestCase
-    requires { let all = map (behaviour_of behaviours.bodies) behaviours.instances.items in IsReady
-        (record { config = prepared.config; types = prepared.types; behaviours = all }) }
+    requires { IsReady (record {
+      config = prepared.config;
+      types = prepared.types;
+      behaviours = map (behaviour_of behaviours.bodies) behaviours.instances.items;
+    }) }
     ensures { result ≡ record {
       config = prepared.entry.config;
       types = prepared.entry.types;

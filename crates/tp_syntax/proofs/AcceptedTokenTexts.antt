@@ -87,7 +87,7 @@ open_uncut (p ∷ ps) bytes h o = open_uncut ps h.0 h.3 (open_piece p h.0 bytes 
 
 -- ---- any fault
 
--- what is left behind the first pieces is cut as the whole is
+-- what is left after the first pieces is cut as the whole is
 cut_rest : (ps qs : List Piece) (bytes rest : List ℕ) → Cuts ps bytes rest → Cuts qs bytes [] → (us : List Piece) × Cuts us rest [] × (qs ≡ ps ++ us)
 cut_rest [] qs bytes rest h i = (qs, subst (λ (z : List ℕ). Cuts qs z []) h i, refl)
 cut_rest (p ∷ ps) [] bytes rest h i = absurd (piece_some p h.0 h.2 (sym h.1 ∙ i))

@@ -1,4 +1,4 @@
--- Tokens that are cut behind one of them, and the last that is kept.
+-- Tokens that are cut after one of them, and the last that is kept.
 use Rattle.std.proofs.Common.{◌≡◌, ℕ, zero, suc, ◌+◌, ◌<◌, List, [], ◌∷◌, ◌++◌, length, map, take, drop, get_or, set, ap, sym, ◌∙◌, arith}
 use Rattle.std.proofs.lemmas.List.{take-map}
 use Rattle.std.proofs.Math.Seq.{take-append-add}

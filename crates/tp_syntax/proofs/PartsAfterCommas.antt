@@ -1,4 +1,4 @@
--- Parts behind commas, read one after the other.
+-- Parts after commas, read one after the other.
 use Rattle.std.proofs.Common.{◌≡◌, Bool, true, false, List, [], ◌∷◌, ◌++◌, drop, map, refl, ap, sym, subst, ◌∙◌, append_assoc}
 use Rattle.std.proofs.lemmas.List.{append-nil}
 use Rattle.tp_syntax.specs.Lexeme.{PlacedLexeme}
@@ -9,7 +9,7 @@ use Rattle.tp_syntax.specs.Rule.{Rule}
 use Rattle.tp_syntax.specs.Grammar.{production, notes_line}
 use Rattle.tp_syntax.specs.Reading.{Tree, more, none, Reads, ReadsChoice, Fails, FailsChoice, reads_rule, reads_this, reads_other, reads_else, reads_none, reads_more, fails_rule, fails_this, fails_here, fails_later, of, one, sym as symbol_leaf, chain}
 
--- this rule is a chain of others behind commas
+-- this rule is a chain of others after commas
 pub record Separated (q r : Rule) : Type 0 where
   pub is : production r ≡ choose (at_symbol Comma (rule q ∷ rule r ∷ []) ∷ []) []
   pub silent : notes_line r ≡ false

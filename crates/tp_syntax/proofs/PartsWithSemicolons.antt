@@ -1,4 +1,4 @@
--- Parts in braces, each with a `;` behind it, which the last may lack.
+-- Parts in braces, each with a `;` after it, which the last may lack.
 use Rattle.std.proofs.Common.{◌≡◌, Bool, true, false, List, [], ◌∷◌, ◌++◌, refl, sym, subst, ◌∙◌, append_assoc}
 use Rattle.std.proofs.lemmas.List.{append-nil}
 use Rattle.tp_syntax.specs.Lexeme.{PlacedLexeme}
@@ -10,7 +10,7 @@ use Rattle.tp_syntax.specs.Grammar.{production, notes_line}
 use Rattle.tp_syntax.specs.Reading.{Tree, Reads, ReadsChoice, Fails, FailsChoice, reads_rule, reads_this, reads_other, reads_else, reads_none, reads_more, fails_rule, fails_other, fails_this, fails_else, fails_here, fails_later, more, of, one, sym as symbol_leaf}
 use Rattle.tp_syntax.specs.DefinitionTrees.{steps}
 
--- this rule is a row of others, each with what ends it, behind which the row goes on
+-- this rule is a row of others, each with what ends it, after which the row goes on
 pub record InSteps (q m e : Rule) : Type 0 where
   pub goes : production m ≡ choose (at_symbol RightBrace [] ∷ []) (rule q ∷ rule e ∷ [])
   pub ends : production e ≡ choose (at_symbol Semicolon (rule m ∷ []) ∷ []) (sy RightBrace ∷ [])

@@ -74,7 +74,7 @@ rule_sampled (suc k) r rest lt =
 sampled : (bound : List ℕ) (is : List Item) (rest : List PlacedLexeme) → are_below 10 is ≡ true → AllSampled bound is rest
 sampled = items_sampled 10 (rule_sampled 10)
 
--- what was read, with other tokens behind it
+-- what was read, with other tokens after it
 pub record Moved (i : Item) (n : ℕ) (ts : List PlacedLexeme) (t : Tree) (us : List PlacedLexeme) : Type 0 where
   pub all : List PlacedLexeme
   pub tree : Tree

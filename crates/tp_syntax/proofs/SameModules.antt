@@ -91,7 +91,7 @@ behind_back : (r l : Rule) (b : Bool) (t : Tree) → behind_end (under (end_fram
 behind_back r l true t = refl
 behind_back r l false t = refl
 
--- a definition, and the tree behind it
+-- a definition, and the tree of it
 defined_same : (k l : ℕ) (x y : Defined) (b c : Bool) (t u : Tree) → under (defined_frames k x b) t ≡ under (defined_frames l y c) u
     → (x ≡ y) × (b ≡ c) × (t ≡ u)
 defined_same k l (d.Function f) (d.Function g) b c t u e = (ap d.Function (function_same f g (cc)), told may_end_back may_end_returns b c (cc), cc)

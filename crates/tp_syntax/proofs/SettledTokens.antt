@@ -27,7 +27,7 @@ waits t = elim (cases_Bool (is_minus t.token)) [
   | inr other ↦ rw other refl
 ]
 
--- a token, where those behind it are kept as they are
+-- a token, where those after it are kept as they are
 as_it_is : (t : PlacedLexeme) (ts : List PlacedLexeme)
     → (has_negative_zero (is_some (waiting t)) ts ≡ false → settled_behind (waiting t) ts ≡ kept_at_end (waiting t) ++ ts)
     → has_negative_zero (is_minus t.token) ts ≡ false → unsigned t ++ settled_behind (waiting t) ts ≡ t ∷ ts

@@ -183,7 +183,7 @@ mutual
         ]
       ]
 
--- with what the items begin, where this stands behind them
+-- with what the items begin, where this stands after them
 begins : {bound : List ℕ} {is : List Item} {ts : List PlacedLexeme} {trees : Trees} {rest : List PlacedLexeme} (behind : List Terminal)
     → SpellsAll bound is ts trees rest → Has behind (next rest) → Has (starts is behind) (next ts)
 begins behind spells_none f = f
@@ -195,7 +195,7 @@ begins behind (spells_more {i = rule r} {is = is} h hs) f =
           (subst (λ (x : List PlacedLexeme). Has (starts is behind) (next x)) (sym k.1) (begins behind hs f))
     ]
 
--- what may stand behind an item
+-- what may stand after an item
 abbrev pub MayFollow : Item → Option Lexeme → Type 0
 MayFollow (token t) o = Unit {0}
 MayFollow (rule r) o = Has (follows r) o

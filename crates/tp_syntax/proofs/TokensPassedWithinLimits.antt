@@ -1,4 +1,4 @@
--- How a text goes on behind a token within the limits.
+-- How a text goes on after a token within the limits.
 use Rattle.std.proofs.Common.{◌≡◌, ℕ, ◌+◌, ◌<◌, ◌≤◌, Bool, false, List, [], ◌∷◌, ◌++◌, Option, map, length, drop, get_or, refl, ap, sym, subst, ◌∙◌, append_assoc, append-nil, arith}
 use Rattle.std.proofs.lemmas.List.{drop_all, drop_more, length_push}
 use Rattle.tp_syntax.specs.declared.token.Placed.{Placed}
@@ -22,7 +22,7 @@ pub record GoesOnWith (tokens : List PlacedLexeme) (opened : ℕ) (signed : Bool
   pub is : tokens ≡ passed ++ rest
   pub allowed : AreAllowed 0 false passed opened signed
 
--- behind a token within the limits the text goes on
+-- after a token within the limits the text goes on
 abbrev goes_on : (tokens : List PlacedLexeme) (opened : ℕ) (signed : Bool) (t : PlacedLexeme) (rest : List PlacedLexeme) → GoesOnWith tokens opened signed (t ∷ rest) →
     IsAllowed opened signed t.token → GoesOnWith tokens (opened_behind opened t.token) (is_minus t.token) rest
 goes_on tokens opened signed t rest g is = record {
@@ -36,7 +36,7 @@ few_bracket opened Opens few is = omega arith
 few_bracket opened Closes few is = omega arith
 few_bracket opened Neither few is = few
 
--- behind a token within the limits 32 brackets at most are open
+-- after a token within the limits 32 brackets at most are open
 pub few_behind : (opened : ℕ) (signed : Bool) (l : Lexeme) → opened ≤ 32 → IsAllowed opened signed l → opened_behind opened l ≤ 32
 few_behind opened signed (symbol s) few is = few_bracket opened (symbol_bracket s) few is
 few_behind opened signed l few is = few
@@ -79,7 +79,7 @@ one_gone ps place opened signed t opened_there signed_there g within at is e f =
     subst (λ n. HasGone ps (place + 1) n signed_there) (sym e)
     (subst (λ b. HasGone ps (place + 1) (opened_behind opened (lexeme_of t.token)) b) (sym f) gone)
 
--- behind all of them each is within the limits
+-- after all of them each is within the limits
 pub all_gone : (ps : List Placed) (place opened : ℕ) (signed : Bool) → HasGone ps place opened signed → length ps ≤ place →
     AreWithin (map placed_lexeme ps)
 all_gone ps place opened signed g behind =
@@ -87,7 +87,7 @@ all_gone ps place opened signed g behind =
     let all : map placed_lexeme ps ≡ g.at.passed = g.at.is ∙ ap (λ (ts : List PlacedLexeme). g.at.passed ++ ts) none ∙ append-nil g.at.passed in
     (opened, signed, subst (λ (ts : List PlacedLexeme). AreAllowed 0 false ts opened signed) (sym all) g.at.allowed)
 
--- the tokens are cut behind the first that is beyond the limits
+-- the tokens are cut after the first that is beyond the limits
 pub cut_there : (ps : List Placed) (place opened : ℕ) (signed : Bool) (t : Placed) (front : List PlacedLexeme) (beyond : Option ℕ) →
     HasGone ps place opened signed → place < length ps → t ≡ get_or ps place t → (IsAllowed opened signed (lexeme_of t.token) → ⊥) →
     ((passed rest : List PlacedLexeme) (u : PlacedLexeme) → map placed_lexeme ps ≡ passed ++ u ∷ rest → length passed ≡ place → IsCutOf passed u signed front beyond) →

@@ -72,7 +72,7 @@ abbrev pub none_in : List Terminal → List Terminal → Bool
 none_in [] us = true
 none_in (t ∷ ts) us = not (is_in t us) && none_in ts us
 
--- with what these items begin, where these tokens may stand behind them
+-- with what these items begin, where these tokens may stand after them
 abbrev pub starts : List Item → List Terminal → List Terminal
 starts [] behind = behind
 starts (token t ∷ is) behind = t ∷ []
@@ -83,7 +83,7 @@ may_be_nothing [] = true
 may_be_nothing (token t ∷ is) = false
 may_be_nothing (rule r ∷ is) = nullable r && may_be_nothing is
 
--- whether what may stand behind each rule among the items may stand behind it
+-- whether what may stand after each rule among the items may stand after it
 abbrev pub follow_fits : List Item → List Terminal → Bool
 follow_fits [] behind = true
 follow_fits (token t ∷ is) behind = follow_fits is behind

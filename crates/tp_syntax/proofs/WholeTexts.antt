@@ -40,7 +40,7 @@ pub refused : (ts : List PlacedLexeme) (e : Stuck) → Fails (rule a_module) ts 
 refused ts (At n) f = λ us t g h. apart f g (text_read h)
 refused ts Memory f = tt
 
--- more stands behind a whole text
+-- more stands after a whole text
 pub goes_no_further : (ts rest : List PlacedLexeme) (t : Tree) (n : ℕ) → Reads (rule a_module) ts t rest → n ≡ length rest
     → (next rest ≡ None → ⊥) → NoneGoesOn ts (At n)
 goes_no_further ts rest t n h l some us u g k =
@@ -53,7 +53,7 @@ pub text_begins : (ts : List PlacedLexeme) (e : Stuck) → Fails (rule a_module)
 text_begins ts (At n) f = let k = viable [] f in (k.all, k.tree, k.begins, k.spells)
 text_begins ts Memory f = tt
 
--- so does a whole text with more behind it
+-- so does a whole text with more after it
 all_begin : (ts : List PlacedLexeme) {n : ℕ} {us : List PlacedLexeme} {t : Tree} → Moved (rule a_module) n ts t us → us ≡ []
     → (all : List PlacedLexeme) × (tree : Tree) × Begins n ts all × IsText all tree
 all_begin ts k e = (k.all, k.tree, k.begins, subst (λ (us : List PlacedLexeme). Spells (rule a_module) k.all k.tree us) e k.spells)

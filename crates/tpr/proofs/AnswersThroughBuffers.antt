@@ -41,7 +41,7 @@ module _ {W : Type 0} (contents : W → Option (List ℕ)) where
   answered_more may more old new given allows h =
       record { text = h.text; status = h.status; allowed = allows h.text h.status h.allowed; written = h.written; told = h.told }
 
--- what is behind a buffer has got what was printed into it
+-- what a buffer writes to has got what was printed into it
 module _ {W : Type 0} (contents : W → Option (List ℕ)) (may : List ℕ → ℕ → Type 0) (before : BufWriter W Global) (old new : Watched (BufWriter W Global))
     (given : Option ℕ) (first : old.inner ≡ before) (h : IsAnswered (writer_contents contents) may old new given) where
   no_status : given ≡ None → HasFailed new

@@ -1,4 +1,4 @@
--- Where there is a `system` clause, one component is added, of the type behind it.
+-- Where there is a `system` clause, one component is added, of the type after it.
 use Rattle.std.proofs.Common.{[]}
 use Rattle.tp_checks.specs.Components.{CanAdd, interface}
 use Rattle.tp_checks.proofs.{AddableComponents.interface_is, AddableComponents.only_one, ModuleRefusalPropagation.handed_on}

@@ -1,4 +1,4 @@
--- Where a declaration has no room behind those before it, all the ports are more than 64.
+-- Where a declaration has no room after those before it, all the ports are more than 64.
 use Rattle.std.proofs.Common.{◌+◌, ◌≤◌, ◌<◌, ◌≡◌, ℕ, List, arith, get_or, length, map, refl, subst, sym, take}
 use Rattle.std.proofs.{lemmas.List.length-map, lemmas.List.Folds.length-flat_map-take}
 use Rattle.std.specs.List.{flat_map}

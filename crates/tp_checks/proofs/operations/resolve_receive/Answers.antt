@@ -1,4 +1,4 @@
--- The port is known, and the first part that breaks a rule does so behind those that obey theirs.
+-- The port is known, and the parts before the first one that breaks a rule obey theirs.
 use Rattle.tp_checks.specs.BrokenOperations as b
 use Rattle.tp_checks.proofs.RuleFaultPropagation.{tells_at}
 use Rattle.tp_checks.proofs.operations.resolve_receive.Goals as goal

@@ -1,4 +1,4 @@
--- The port is known, and what is sent breaks a rule, or the component behind `to` does.
+-- The port is known, and what is sent breaks a rule, or the component after `to` does.
 use Rattle.tp_checks.specs.BrokenOperations as b
 use Rattle.tp_checks.proofs.RuleFaultPropagation.{tells_at}
 use Rattle.tp_checks.proofs.operations.resolve_send.Goals as goal

@@ -1,4 +1,4 @@
--- The name behind `value` is that of a variable of messages, of the template's type.
+-- The name after `value` is that of a variable of messages, of the template's type.
 use Rattle.std.proofs.Common.{◌≡◌}
 use Rattle.tp_checks.specs.declared.fault.ModuleRule.TheVariants as rule
 use Rattle.tp_checks.specs.BrokenOperations as b

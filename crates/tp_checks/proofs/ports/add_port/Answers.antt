@@ -1,4 +1,4 @@
--- A port whose name is new goes behind the others, and receives and sends what its type does.
+-- A port whose name is new goes after the others, and receives and sends what its type does.
 use Rattle.std.proofs.Common.{◌++◌, ◌∷◌, [], ◌∙◌, Contains, ap, inr, map, string_bytes, subst, sym}
 use Rattle.tp_config.specs.{Setup.PortDecl, Shape.decl_of, Shape.ports_of}
 use Rattle.tp_checks.specs.Definitions.{declared}

@@ -1,4 +1,4 @@
--- The ports of the names so far stand behind those that were there.
+-- The ports of the names so far stand after those that were there.
 use Rattle.std.proofs.Common.{◌≡◌, ◌++◌, map, take}
 use Rattle.tp_config.specs.Shape.{ports_of}
 use Rattle.tp_checks.specs.Resolved.{port_decl}

@@ -1,4 +1,4 @@
--- The types of the names so far stand behind those that were there.
+-- The types of the names so far stand after those that were there.
 use Rattle.std.proofs.Common.{take}
 use Rattle.tp_checks.specs.Resolved.{Appends}
 use Rattle.tp_checks.proofs.ports.add_types.Given as goal

@@ -1,4 +1,4 @@
--- The next type goes behind the others, under its own name.
+-- The next type goes after the others, under its own name.
 use Rattle.std.proofs.Common.{arith, map}
 use Rattle.tp_checks.specs.{Resolved.IsNamedType, Definitions.type_of, Rules.AreSoundTypes, Rules.AreTypesKnown}
 use Rattle.std.specs.Prelude.{IsSome}

@@ -1,4 +1,4 @@
--- First `mtc` is added, and behind it the components of the setup statements.
+-- First `mtc` is added, and after it the components of the setup statements.
 use Rattle.std.proofs.Common.{ap, subst}
 use Rattle.std.specs.Prelude.{IfErr}
 use Rattle.tp_checks.specs.{Refused.IsRefusedBy, Refused.Tells, Components.main_component, Components.CanAdd, Sorted.component_types_in}

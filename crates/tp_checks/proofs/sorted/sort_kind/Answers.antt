@@ -1,4 +1,4 @@
--- A definition of another kind changes nothing, and one of the kind goes behind the others.
+-- A definition of another kind changes nothing, and one of the kind goes after the others.
 use Rattle.std.proofs.Common.{◌+◌, ◌++◌, ◌∷◌, [], ◌∙◌, ap, arith, map, refl, subst, sym}
 use Rattle.std.proofs.lemmas.List.{map_push}
 use Rattle.tp_checks.specs.Tables.{IsNumbered}

@@ -11,7 +11,7 @@ use Rattle.tp_checks.proofs.RuleFaultPropagation.{told_at}
 use Rattle.tp_tree.specs.declared.tree.Function.{Function}
 use Rattle.tp_checks.proofs.starting.check_start.Goals as goal
 
--- the place of the name of a component variable, whose component is the one behind it
+-- the place of the name of a component variable, whose component is the one after it
 place_before : (o : Option ℕ) (n : ℕ) → option_map (λ k. k + 1) o ≡ Some n → (k : ℕ) × (o ≡ Some k) × (n ≡ k + 1)
 place_before None n e = absurd (cc)
 place_before (Some k) n e = (k, refl, sym (same_Some (k + 1) n e))

@@ -1,4 +1,4 @@
--- There is a route from each of the ports passed so far, behind the routes that were there before.
+-- There is a route from each of the ports passed so far, after the routes that were there before.
 use Rattle.std.proofs.Common.{◌≡◌, ◌++◌, map, take}
 use Rattle.tp_config.specs.Routes.{route_to}
 use Rattle.tp_config.proofs.routes.add_routes_to.Given as goal

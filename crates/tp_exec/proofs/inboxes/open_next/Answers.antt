@@ -1,4 +1,4 @@
--- The next component has its inbox and its desk, and the senders into it stand behind the others.
+-- The next component has its inbox and its desk, and the senders into it stand after the others.
 use Rattle.std.proofs.Common.{length, ap, ◌∙◌}
 use Rattle.std.proofs.lemmas.List.{length_push}
 use Rattle.tp_exec.proofs.OpenedInboxes.{opened_next}

@@ -1,4 +1,4 @@
--- The routes so far are in order, behind the sections.
+-- The routes so far are in order, after the sections.
 use Rattle.std.proofs.Common.{◌≡◌, ◌++◌}
 use Rattle.tp_judge.specs.Demands.{from_each, route_demands, section_demands}
 use Rattle.tp_judge.proofs.demands.make_demands.Given as goal

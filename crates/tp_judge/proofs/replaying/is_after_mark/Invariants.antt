@@ -1,4 +1,4 @@
--- Nothing behind the mark is it, at the places so far.
+-- Nothing after the mark is it, at the places so far.
 use Rattle.std.proofs.Common.{◌≢◌, ◌<◌, ◌≤◌, ℕ, Some}
 use Rattle.std.specs.Prelude.{slice_get}
 use Rattle.tp_judge.specs.Lines.{envelope_of}

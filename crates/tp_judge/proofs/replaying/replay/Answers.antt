@@ -1,4 +1,4 @@
--- One line more is replayed, or breaks a rule behind those that were.
+-- One line more is replayed, or breaks a rule after those that were.
 use Rattle.tp_judge.proofs.BrokenPortReplays.{broken_here, replayed_more}
 use Rattle.tp_judge.proofs.replaying.replay.Goals as goal
 

@@ -1,4 +1,4 @@
--- Behind what was sent nothing agrees with what came.
+-- After what was sent nothing agrees with what came.
 use Rattle.std.proofs.Common.{◌∙◌, arith}
 use Rattle.std.proofs.lemmas.Bool.{false≢true}
 use Rattle.tp_judge.proofs.LinesNameOneParcel.{named_within}

@@ -1,4 +1,4 @@
--- No parcel is behind the last line.
+-- No parcel is after the last line.
 use Rattle.std.proofs.Common.{arith}
 use Rattle.tp_judge.proofs.LinesNameOneParcel.{named_within}
 use Rattle.tp_judge.proofs.routes.misnumbered.Goals as goal

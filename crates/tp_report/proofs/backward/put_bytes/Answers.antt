@@ -1,4 +1,4 @@
--- What stands from there on is the bytes, and what stood behind the place.
+-- What stands from there on is the bytes, and what stood after the place.
 use Rattle.std.proofs.Common.{ℕ, ◌-◌, List, length, drop, ap, ◌∙◌, arith}
 use borrow.Rule.Slice.PartMut.{put_mid}
 use Rattle.tp_report.proofs.TextBuiltBackwards.{put_before}

@@ -1,4 +1,4 @@
--- The next definition is no function, or its body stands behind the others.
+-- The next definition is no function, or its body stands after the others.
 use Rattle.std.proofs.Common.{arith, sym, subst}
 use Rattle.std.specs.List.{AllZip}
 use Rattle.tp_script.specs.{Instances.known_in, Scopes.IsFunctionBody, BrokenModules.FunctionsBreak}

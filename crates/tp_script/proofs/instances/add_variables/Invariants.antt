@@ -1,4 +1,4 @@
--- The components of the variables so far stand behind the others, numbered from 1.
+-- The components of the variables so far stand after the others, numbered from 1.
 use Rattle.std.proofs.Common.{map}
 use Rattle.tp_script.specs.Behaviours.{Numbers}
 use Rattle.tp_script.proofs.instances.add_variables.Given as goal

@@ -1,4 +1,4 @@
--- What is kept is those passed and the one behind them, brought within the limits.
+-- What is kept is those passed and the one after them, brought within the limits.
 use Rattle.std.proofs.Common.{◌≡◌, List, [], ◌∷◌, ◌++◌, Some, map, ap, ◌∙◌}
 use Rattle.tp_syntax.specs.declared.token.Placed.{Placed}
 use Rattle.tp_syntax.specs.Lexeme.{Lexeme, PlacedLexeme, lexeme_of, placed_lexeme}

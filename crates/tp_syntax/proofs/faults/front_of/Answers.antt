@@ -1,4 +1,4 @@
--- Behind a token within the limits the text goes on; else the tokens are cut behind it.
+-- After a token within the limits the text goes on; else the tokens are cut after it.
 use Rattle.std.proofs.Common.{inl, inr, ◌≤◌, refl, subst, sym, arith}
 use Rattle.std.proofs.lemmas.Bool.{iff_false}
 use Rattle.tp_syntax.proofs.TokensPassedWithinLimits.{all_gone, cut_there, few_behind, none_gone, one_gone}

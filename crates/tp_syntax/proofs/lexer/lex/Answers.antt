@@ -1,4 +1,4 @@
--- The next piece is cut off behind the others, and a fault there is the first in the text.
+-- The next piece is cut off after the others, and a fault there is the first in the text.
 use Rattle.std.proofs.Common.{◌≡◌, ◌<◌, ◌≤◌, [], length, map, sym, ap, subst, ◌∙◌, append-nil, arith}
 use Rattle.std.proofs.lemmas.Bool.{false≢true}
 use Rattle.std.proofs.lemmas.List.{nil_from_length}

@@ -1,4 +1,4 @@
--- At each place a `-` stands directly before a 0, or what holds of the tokens behind it holds of all.
+-- At each place a `-` stands directly before a 0, or what holds of the tokens after it holds of all.
 use Rattle.std.proofs.Common.{◌≡◌, ◌+◌, Bool, false, ◌&&◌, List, map, drop, ap, sym, ◌∙◌}
 use Rattle.std.proofs.lemmas.Bool.{and_left, and_right}
 use Rattle.std.proofs.lemmas.List.{drop_all}

@@ -17,7 +17,7 @@ invariant_of-self-in_err-file c =
     subst (λ (l : List ℕ). AreSendersFiled c.reserve.new.self.items c.file.new.places l) (sym c.reserve-2.ensures.items)
     (subst (λ (l : List SenderLedger). AreSendersFiled l c.file.new.places loops) (sym c.reserve.ensures.items) still)
 
--- the sender stands behind the others, and each of its routes is found
+-- the sender stands after the others, and each of its routes is found
 pub invariant_of-self-2 : goal.invariant_of-self-2
 invariant_of-self-2 c =
     let s = c.args.sender in

@@ -1,4 +1,4 @@
--- A name that is not there goes behind the others, which stay different and few.
+-- A name that is not there goes after the others, which stay different and few.
 use Rattle.std.proofs.Common.{◌++◌, ◌∷◌, [], ◌∙◌, ◌≡◌, ◌<◌, ◌^◌, Contains, ap, map, subst, sym, true≢false, length, arith}
 use Rattle.std.proofs.lemmas.List.{length_push, length-map}
 use Rattle.tp_checks.specs.Tables.{AreDistinct, IsNumbered}

@@ -1,4 +1,4 @@
--- The port's queue stands for the port's history with the arrival behind it, and the clock keeps to it.
+-- The port's queue stands for the port's history with the arrival at its end, and the clock keeps to it.
 use Rattle.std.proofs.Common.{ap, refl, arith}
 use Rattle.tp_common.specs.declared.event.Event.TheVariants as event
 use Rattle.tp_inbox.specs.declared.entry.Entry.TheVariants as entry

@@ -1,4 +1,4 @@
--- What is found stays in the port's queue, which stands for the port's history with that behind.
+-- What is found stays in the port's queue, which stands for the port's history with that at its end.
 use Rattle.std.proofs.Common.{ap, refl, arith, ◌<◌, List, length}
 use Rattle.tp_common.specs.declared.event.Event.{Event}
 use Rattle.tp_queue.specs.Queues.{StandsFor}

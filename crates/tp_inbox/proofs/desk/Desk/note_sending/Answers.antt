@@ -1,4 +1,4 @@
--- The queues and the clock keep to the history with the sending behind it.
+-- The queues and the clock keep to the history with the sending at its end.
 use Rattle.std.proofs.Common.{◌≡◌, ◌∙◌, ◌+◌, ◌<◌, ap, arith, max, sym}
 use Rattle.tp_inbox.specs.declared.stamped.Stamped.{Stamped}
 use Rattle.tp_inbox.specs.declared.entry.Entry.TheVariants as entry

@@ -1,4 +1,4 @@
--- What is taken out is what was found, and the port's queue stands for the port's history with it behind.
+-- What is taken out is what was found, and the port's queue stands for the port's history with it at its end.
 use Rattle.std.proofs.Common.{ap, refl, arith, sym, subst, ◌≡◌, ◌<◌, ◌∷◌, ◌++◌, [], true, List, length}
 use Rattle.std.proofs.lemmas.List.{length-set}
 use Rattle.std.proofs.lemmas.Option.{same_Some}

@@ -1,4 +1,4 @@
--- What is taken out is the top, and the port's queue stands for the port's history with it behind.
+-- What is taken out is the top, and the port's queue stands for the port's history with it at its end.
 use Rattle.std.proofs.Common.{ap, refl, arith, ◌≡◌, ◌<◌, ◌∷◌, ◌++◌, [], List, length}
 use Rattle.std.proofs.lemmas.List.{length-set}
 use Rattle.tp_common.specs.declared.event.Event.{Event}

@@ -1,4 +1,4 @@
--- What was moved so far is behind the desk's history, and behind what was drained.
+-- What was moved so far stands at the end of the desk's history, and of what was drained.
 use Rattle.std.proofs.Common.{◌≡◌, List, ◌++◌}
 use Rattle.tp_inbox.specs.declared.entry.Entry.{Entry}
 use Rattle.tp_inbox.specs.History.{arrivals}

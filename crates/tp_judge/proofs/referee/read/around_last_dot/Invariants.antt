@@ -1,4 +1,4 @@
--- What stands behind the place has no `.`.
+-- What stands after the place has no `.`.
 use Rattle.std.proofs.Common.{◌≡◌, ◌≤◌, true, length, drop}
 use Rattle.tp_common.specs.Cutting.{lacks}
 use Rattle.tp_judge.proofs.referee.read.around_last_dot.Given as goal

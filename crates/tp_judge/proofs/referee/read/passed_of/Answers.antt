@@ -1,4 +1,4 @@
--- The bytes behind a word that tells what became of a message are cut in one way.
+-- The bytes after a word that tells what became of a message are cut in one way.
 use Rattle.std.proofs.Common.{◌≡◌, ◌∷◌, ◌++◌, ◌∙◌, true, ap, sym, arith, subst}
 use Rattle.std.specs.Option.{option_copied}
 use Rattle.std.proofs.lemmas.Bool.Decides.{nat_tests}

@@ -1,4 +1,4 @@
--- The bytes behind `sent` are cut in one way.
+-- The bytes after `sent` are cut in one way.
 use Rattle.std.proofs.Common.{◌≡◌, ◌∙◌, true, ap, sym, arith, subst}
 use Rattle.std.specs.Option.{option_copied}
 use Rattle.std.proofs.lemmas.Bool.Decides.{nat_tests}

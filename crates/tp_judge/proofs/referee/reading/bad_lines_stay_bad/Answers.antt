@@ -1,4 +1,4 @@
--- The lines before are the same, and what the bad line tells may not stand behind them.
+-- The lines before are the same, and what the bad line tells may not stand after them.
 use Rattle.tp_judge.proofs.TraceLineGrowth.{bad_stays_bad}
 use Rattle.tp_judge.proofs.referee.reading.bad_lines_stay_bad.Goals as goal
 

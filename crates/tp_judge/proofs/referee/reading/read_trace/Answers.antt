@@ -1,4 +1,4 @@
--- Each line is taken behind those before it, and with the last the whole text is.
+-- Each line is taken after those before it, and with the last the whole text is.
 use Rattle.std.proofs.Common.{◌≡◌, ◌+◌, ◌∷◌, ◌++◌, [], ◌∙◌, ap, arith, length, subst, sym, List}
 use Rattle.std.specs.Prelude.{All}
 use Rattle.std.proofs.lemmas.List.Elements.{All-push}

@@ -1,4 +1,4 @@
--- The trees of what is returned, and one more template or field behind its comma.
+-- The trees of what is returned, and one more template or field after its comma.
 use Rattle.std.proofs.Common.{refl, ap, arith}
 use Rattle.tp_syntax.specs.declared.word.Word.TheVariants.{Complement}
 use Rattle.tp_syntax.specs.declared.token.Symbol.TheVariants.{Assign, Minus}

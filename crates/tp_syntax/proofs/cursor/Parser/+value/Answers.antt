@@ -1,4 +1,4 @@
--- One more value or field behind its comma.
+-- One more value or field after its comma.
 use Rattle.std.proofs.Common.{refl, arith}
 use Rattle.tp_syntax.specs.declared.token.Symbol.TheVariants.{Assign}
 use Rattle.tp_syntax.specs.Reading.{reads_rule, reads_else, reads_more, reads_none}

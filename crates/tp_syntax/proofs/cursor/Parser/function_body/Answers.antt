@@ -1,4 +1,4 @@
--- One more variable, and the statements behind the last one.
+-- One more variable, and the statements after the last one.
 use Rattle.std.proofs.Common.{Bool, List, [], refl, ap, ap₂, map, sym, ◌∙◌, arith}
 use Rattle.tp_tree.specs.declared.tree.Statement.{Statement}
 use Rattle.tp_syntax.specs.Rule.{variables}

@@ -1,4 +1,4 @@
--- The component is that of a section, or stands behind them.
+-- The component is that of a section, or stands after them.
 use Rattle.std.proofs.Common.{◌≡◌, ◌+◌, ◌++◌, ◌∙◌, Some, length, slice_get, subst, sym, ap, arith}
 use Rattle.std.proofs.lemmas.List.{length-append}
 use Rattle.std.proofs.lemmas.Option.{slice_get_within}
