@@ -3,6 +3,7 @@
 use denote.Param.Send.{IsSend, IsSync, sendable}
 use Rattle.std.proofs.Crossing.{crosses}
 use Rattle.indexmap.proofs.map.IndexMap.TheSendSync.{the_send as map_send}
+use Rattle.tp_value.proofs.shared.Shared.TheSendSync.{the_send as shared_send, the_sync as shared_sync}
 use Rattle.tp_value.proofs.value.Value.TheLaws.TheKnot.{crosses_both as value_knot}
 use Rattle.tp_value.proofs.template.Template.TheLaws.TheKnot.{crosses as template_knot}
 use Rattle.tp_config.proofs.port_type.RouteId.TheSendSync.{the_send as route_send}
@@ -31,7 +32,7 @@ worker_field_send : IsSend (worker.the_field).row
 worker_field_send = search (sendable, crosses, owner_send, desk_send, outbox_send) depth 30
 
 guard_send : IsSend guard.the_row
-guard_send = search (sendable, crosses, template_knot, value_knot) depth 40 fits 20000
+guard_send = search (sendable, crosses, template_knot, value_knot, shared_send, shared_sync) depth 40 fits 20000
 
 -- an outcome, as it stands in another type's field
 outcome_field_send : IsSend (outcome.the_field).row

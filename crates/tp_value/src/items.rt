@@ -1,5 +1,5 @@
 //! A list that contracts see as a list.
-ghost use Rattle.std.specs.Prelude.{◌≡◌, [], ◌∷◌, ◌++◌, ◌<◌, ◌↔◌, length, slice_get, IsTrue, IfOk, OnOk, OnErr, OnSome};
+ghost use Rattle.std.specs.Prelude.{◌≡◌, [], ◌∷◌, ◌++◌, ◌<◌, ◌↔◌, length, slice_get, IsTrue, IfOk, OnOk, OnErr, OnSome, MatchResult};
 ghost use Rattle.std.specs.Option.{option_copied};
 
 use std::alloc::Global;
@@ -89,5 +89,15 @@ impl<T: Drop> Items<T> {
     {
         self.items.push(item)?;
         Ok(())
+    }
+
+    /// All items, if there are `N`, or else the list as it is.
+    pub(crate) fn into_array<const N: usize>(self) -> Result<[T; N], Items<T>>
+        ensures { MatchResult result (λ all. all ≡ self) (λ items. items ≡ self) }
+    {
+        match <[T; N]>::try_from(self.items) {
+            Ok(all) => Ok(all),
+            Err(items) => Err(Items { items }),
+        }
     }
 }

@@ -1,7 +1,8 @@
 -- `Shared` as a type that may hold the type that holds it.
 use mathlib.Core.Path.{◌≡◌, refl, sym}
+use mathlib.Core.Logic.{◌⊎◌, inl, inr}
 use mathlib.Core.List.{List, []}
-use mathlib.Core.Former.{Former, this, const, pair, list, via, children}
+use mathlib.Core.Former.{Former, this, const, pair, or, list, via, children}
 use base.Stored.{gnil, code_map}
 use base.Fml.{ftrue}
 use denote.RattleType.{RattleType}
@@ -9,18 +10,20 @@ use denote.Memory.{part_of}
 use denote.RawPtr.{Ptr}
 use denote.Sharing.{nothing}
 use denote.HoleLaws.{Alike}
-use denote.HolePlaces.{Recodes, struct_places, laid, one_value}
+use denote.HolePlaces.{Recodes, struct_places, enum_places, Mapss, eachs, Array-places, laid, one_value}
 use denote.Hole.Carrier.{listed, list-listed}
 use denote.Hole.Fix.{over}
 use denote.Param.Weighed.{Weighed, w_list}
-use denote.Model.Placed.{view_places}
+use denote.Model.Placed.{held, view_places}
 use Rattle.std.specs.declared.sync.Arc.{Arc}
 use Rattle.std.specs.contracts.sync.Arc as arc
 use Rattle.std.specs.declared.alloc.Global.{Global}
 use Rattle.std.specs.contracts.alloc.Global as heap
 use Rattle.std.specs.contracts.impls.GlobalAllocator.TheImpl.{ghosts}
 use Rattle.tp_value.specs.formers.items.Items as items
-use Rattle.tp_value.specs.contracts.items.Items as I
+use Rattle.tp_value.specs.declared.shared.Body.{Body}
+use Rattle.tp_value.specs.declared.shared.Body.TheVariants.{One, Two, Many}
+use Rattle.tp_value.specs.contracts.shared.Body as B
 use Rattle.tp_value.specs.declared.shared.Shared.TheInside.{Inside}
 use Rattle.tp_value.specs.declared.shared.Shared.TheView.{view, invariant}
 use Rattle.tp_value.specs.contracts.shared.Shared as C
@@ -41,12 +44,50 @@ the_items X d = d
 pub the_items_listed : (X : Type 0) (d : List X) → listed _ (children (the_former this) X d) ≡ the_items X d
 the_items_listed X d = list-listed X d
 
+module _ {X : Type 0} where
+  abbrev split : Body X → List X ⊎ (List X ⊎ List X)
+  split (One xs) = inl xs
+  split (Two xs) = inr (inl xs)
+  split (Many xs) = inr (inr xs)
+
+  abbrev join : List X ⊎ (List X ⊎ List X) → Body X
+  join (inl xs) = One xs
+  join (inr (inl xs)) = Two xs
+  join (inr (inr xs)) = Many xs
+
+  join-split : (b : Body X) → join (split b) ≡ b
+  join-split (One xs) = refl
+  join-split (Two xs) = refl
+  join-split (Many xs) = refl
+
+  split-join : (s : List X ⊎ (List X ⊎ List X)) → split (join s) ≡ s
+  split-join (inl xs) = refl
+  split-join (inr (inl xs)) = refl
+  split-join (inr (inr xs)) = refl
+
+abbrev bodies : Former {0}
+bodies = via (or (list this) (or (list this) (list this))) (λ X. Body X) (λ X. split) (λ X. join) (λ X. join-split) (λ X. split-join)
+
 abbrev fields : Former {0}
-fields = via (pair (const Ptr) (list this)) Inside (λ X a. (a.items.ptr, a.items.value))
-    (λ X v. record { items = record { ptr = v.0; value = v.1 } }) (λ X a. refl) (λ X v. refl)
+fields = via (pair (const Ptr) bodies) Inside (λ X a. (a.body.ptr, a.body.value))
+    (λ X v. record { body = record { ptr = v.0; value = v.1 } }) (λ X a. refl) (λ X v. refl)
 
 abbrev with_value : {X Y : Type 0} → Arc X Global → Y → Arc Y Global
 with_value a y = record { ptr = a.ptr; value = y }
+
+abbrev inside : {X : Type 0} → Ptr → Body X → Inside X
+inside p b = record { body = record { ptr = p; value = b } }
+
+module _ (X : Type 0) where
+  keeps : (p : Ptr) (b : Body X) → held (list this) X (view X (inside p b)) ≡ held fields X (inside p b)
+  keeps p (One xs) = refl
+  keeps p (Two xs) = refl
+  keeps p (Many xs) = refl
+
+  natural : (Y : Type 0) (h : X → Y) (p : Ptr) (b : Body X) → view Y (fields.map X Y h (inside p b)) ≡ (list this).map X Y h (view X (inside p b))
+  natural Y h p (One xs) = refl
+  natural Y h p (Two xs) = refl
+  natural Y h p (Many xs) = refl
 
 abbrev arc_of : RattleType → RattleType
 arc_of R = arc.the_row R heap.the_row ghosts
@@ -64,15 +105,32 @@ module _ (R S : RattleType) (h : R.Denot → S.Denot) where
 
 module _ (R S : RattleType) (h : R.Denot → S.Denot) where
   abbrev mapped : List R.Denot → List S.Denot
-  mapped = (items.the_former this).map R.Denot S.Denot h
+  mapped = (list this).map R.Denot S.Denot h
+
+  abbrev body_mapped : Body R.Denot → Body S.Denot
+  body_mapped = bodies.map R.Denot S.Denot h
+
+  abbrev each_mapped : Mapss (B.enum R).parts (B.enum S).parts
+  each_mapped = ((mapped, tt), ((mapped, tt), ((mapped, tt), tt)))
+
+  variant : (b : Body R.Denot)
+      → (B.enum S).as_values (body_mapped b)
+      ≡ eachs (B.enum R).parts (B.enum S).parts each_mapped ((B.enum R).as_values b)
+  variant (One xs) = refl
+  variant (Two xs) = refl
+  variant (Many xs) = refl
+
+  body_places : Alike R S h → Alike (B.the_row R) (B.the_row S) body_mapped
+  body_places a = enum_places (B.enum R) (B.enum S) each_mapped body_mapped variant refl
+      ((laid _ _ _ (Array-places R S h a 1), tt), ((laid _ _ _ (Array-places R S h a 2), tt), ((laid _ _ _ (items.the_places R S h a), tt), tt)))
 
   pub the_places : Alike R S h → Alike (C.the_row R) (C.the_row S) ((the_former this).map R.Denot S.Denot h)
-  the_places a = view_places fields (list this) view (λ X Y k u. refl) (λ X u. refl) R.Denot S.Denot h
+  the_places a = view_places fields (list this) view (λ X Y k u. natural X Y k u.body.ptr u.body.value) (λ X u. keeps X u.body.ptr u.body.value) R.Denot S.Denot h
       (C.the_row R).coded (C.the_row S).coded
       (invariant R.Denot) (invariant S.Denot) (λ u p q. refl) (λ u p q. refl) (λ u e. tt) (λ u e. tt)
       (over (J.the_row R)) (over (J.the_row S))
-      (struct_places (J.the_type R) (J.the_type S) ((λ b. with_value b (mapped b.value)), tt) _ (λ d. refl) refl
-      (laid _ _ _ (arc_places (I.the_row R) (I.the_row S) mapped (items.the_places R S h a)), tt))
+      (struct_places (J.the_type R) (J.the_type S) ((λ b. with_value b (body_mapped b.value)), tt) _ (λ d. refl) refl
+      (laid _ _ _ (arc_places (B.the_row R) (B.the_row S) body_mapped (body_places a)), tt))
 
   pub the_codes_placed : Recodes R S h → Recodes (C.the_row R) (C.the_row S) ((the_former this).map R.Denot S.Denot h)
   the_codes_placed e d = sym (code_map R.coded.code S.coded.code h (λ x. sym (e x)) d)
