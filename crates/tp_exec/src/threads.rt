@@ -39,7 +39,7 @@ pub(crate) struct RunContext {
     pub(crate) closers: Vec<Closer>,
 }
 
-/// What the thread of a component began with: whatever it returns is the result of that.
+/// What a component's thread began with. Its clause says what the thread then returns.
 #[derive(Drop)]
 struct ThreadPromise {
     test_case: Snapshot<TestCase>,

@@ -9,4 +9,4 @@ pub mod Admits
 pub mod Verdicts
 pub mod ValueText
 pub mod Separators
-pub mod Bodies
+pub mod SharedItems

@@ -13,7 +13,7 @@ use tp_common::memory::Memory;
 /// Where the items of a list lie: one or two beside the count of owners, so that a record of two
 /// fields takes one block of memory instead of two; any others in a block of their own.
 #[derive(Drop)]
-enum Body<T> {
+enum Storage<T> {
     One([T; 1]),
     Two([T; 2]),
     Many(Items<T>),
@@ -26,31 +26,31 @@ enum Body<T> {
 /// A type may contain a list of itself, as a value contains a list of values. Two items must have
 /// less than 2^63 bytes, as those of each type in this repository have.
 pub struct Shared<T> {
-    body: Arc<Body<T>, Global>,
+    storage: Arc<Storage<T>, Global>,
 }
 
 impl<T> Model for Shared<T> {
     ghost use Rattle.std.specs.Prelude.{List};
     ghost use Rattle.std.specs.Coded.{coded_list};
-    ghost use Rattle.tp_value.specs.Bodies.{items_of};
+    ghost use Rattle.tp_value.specs.SharedItems.{items_of};
 
     ghost Value = { List T };
 
     ghost coded = { coded_list T.code };
 
-    ghost view = { λ it. items_of it.body.value };
+    ghost view = { λ it. items_of it.storage.value };
 }
 
 // A derive couldn't state the condition.
 impl<T: Drop> Drop for Shared<T> {
     ghost use Rattle.std.specs.Mem.{FitsInMemory};
-    ghost use Rattle.tp_value.specs.contracts.shared.Body.{the_row as body};
+    ghost use Rattle.tp_value.specs.contracts.shared.Storage.{the_row as storage};
 
     fn drop(self)
-        requires fits { FitsInMemory (body T.row) }
+        requires fits { FitsInMemory (storage T.row) }
     {
-        let Self { body } = self;
-        drop(body);
+        let Self { storage } = self;
+        drop(storage);
     }
 }
 
@@ -67,8 +67,8 @@ impl<T> Shared<T> {
     pub fn share(&self) -> Result<Shared<T>, Memory>
         ensures { IfOk result (λ other. other ≡ self.now) }
     {
-        let body = Arc::try_clone(&self.body)?;
-        Ok(Shared { body })
+        let storage = Arc::try_clone(&self.storage)?;
+        Ok(Shared { storage })
     }
 
     /// The items, the first at place 0.
@@ -76,10 +76,10 @@ impl<T> Shared<T> {
         requires fits { 2 * type_size T.row < 2 ^ 63 }
         ensures { result.now ≡ self.now }
     {
-        match &*self.body {
-            Body::One(items) => items,
-            Body::Two(items) => items,
-            Body::Many(items) => items.as_slice(),
+        match &*self.storage {
+            Storage::One(items) => items,
+            Storage::Two(items) => items,
+            Storage::Many(items) => items.as_slice(),
         }
     }
 }
@@ -102,15 +102,15 @@ impl<T: Drop> Shared<T> {
         ensures { IfOk result (λ shared. shared ≡ items) }
     {
         let made = match items.into_array() {
-            Ok(one) => Arc::new(alloc, Body::One(one)),
+            Ok(one) => Arc::new(alloc, Storage::One(one)),
             Err(items) => match items.into_array() {
-                Ok(two) => Arc::new(alloc, Body::Two(two)),
-                Err(items) => Arc::new(alloc, Body::Many(items)),
+                Ok(two) => Arc::new(alloc, Storage::Two(two)),
+                Err(items) => Arc::new(alloc, Storage::Many(items)),
             },
         };
-        let Ok(body) = made else {
+        let Ok(storage) = made else {
             return Err(Memory);
         };
-        Ok(Shared { body })
+        Ok(Shared { storage })
     }
 }

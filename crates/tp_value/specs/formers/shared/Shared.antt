@@ -21,9 +21,9 @@ use Rattle.std.specs.declared.alloc.Global.{Global}
 use Rattle.std.specs.contracts.alloc.Global as heap
 use Rattle.std.specs.contracts.impls.GlobalAllocator.TheImpl.{ghosts}
 use Rattle.tp_value.specs.formers.items.Items as items
-use Rattle.tp_value.specs.declared.shared.Body.{Body}
-use Rattle.tp_value.specs.declared.shared.Body.TheVariants.{One, Two, Many}
-use Rattle.tp_value.specs.contracts.shared.Body as B
+use Rattle.tp_value.specs.declared.shared.Storage.{Storage}
+use Rattle.tp_value.specs.declared.shared.Storage.TheVariants.{One, Two, Many}
+use Rattle.tp_value.specs.contracts.shared.Storage as T
 use Rattle.tp_value.specs.declared.shared.Shared.TheInside.{Inside}
 use Rattle.tp_value.specs.declared.shared.Shared.TheView.{view, invariant}
 use Rattle.tp_value.specs.contracts.shared.Shared as C
@@ -45,17 +45,17 @@ pub the_items_listed : (X : Type 0) (d : List X) → listed _ (children (the_for
 the_items_listed X d = list-listed X d
 
 module _ {X : Type 0} where
-  abbrev split : Body X → List X ⊎ (List X ⊎ List X)
+  abbrev split : Storage X → List X ⊎ (List X ⊎ List X)
   split (One xs) = inl xs
   split (Two xs) = inr (inl xs)
   split (Many xs) = inr (inr xs)
 
-  abbrev join : List X ⊎ (List X ⊎ List X) → Body X
+  abbrev join : List X ⊎ (List X ⊎ List X) → Storage X
   join (inl xs) = One xs
   join (inr (inl xs)) = Two xs
   join (inr (inr xs)) = Many xs
 
-  join-split : (b : Body X) → join (split b) ≡ b
+  join-split : (b : Storage X) → join (split b) ≡ b
   join-split (One xs) = refl
   join-split (Two xs) = refl
   join-split (Many xs) = refl
@@ -65,26 +65,26 @@ module _ {X : Type 0} where
   split-join (inr (inl xs)) = refl
   split-join (inr (inr xs)) = refl
 
-abbrev bodies : Former {0}
-bodies = via (or (list this) (or (list this) (list this))) (λ X. Body X) (λ X. split) (λ X. join) (λ X. join-split) (λ X. split-join)
+abbrev storages : Former {0}
+storages = via (or (list this) (or (list this) (list this))) (λ X. Storage X) (λ X. split) (λ X. join) (λ X. join-split) (λ X. split-join)
 
 abbrev fields : Former {0}
-fields = via (pair (const Ptr) bodies) Inside (λ X a. (a.body.ptr, a.body.value))
-    (λ X v. record { body = record { ptr = v.0; value = v.1 } }) (λ X a. refl) (λ X v. refl)
+fields = via (pair (const Ptr) storages) Inside (λ X a. (a.storage.ptr, a.storage.value))
+    (λ X v. record { storage = record { ptr = v.0; value = v.1 } }) (λ X a. refl) (λ X v. refl)
 
 abbrev with_value : {X Y : Type 0} → Arc X Global → Y → Arc Y Global
 with_value a y = record { ptr = a.ptr; value = y }
 
-abbrev inside : {X : Type 0} → Ptr → Body X → Inside X
-inside p b = record { body = record { ptr = p; value = b } }
+abbrev inside : {X : Type 0} → Ptr → Storage X → Inside X
+inside p b = record { storage = record { ptr = p; value = b } }
 
 module _ (X : Type 0) where
-  keeps : (p : Ptr) (b : Body X) → held (list this) X (view X (inside p b)) ≡ held fields X (inside p b)
+  keeps : (p : Ptr) (b : Storage X) → held (list this) X (view X (inside p b)) ≡ held fields X (inside p b)
   keeps p (One xs) = refl
   keeps p (Two xs) = refl
   keeps p (Many xs) = refl
 
-  natural : (Y : Type 0) (h : X → Y) (p : Ptr) (b : Body X) → view Y (fields.map X Y h (inside p b)) ≡ (list this).map X Y h (view X (inside p b))
+  natural : (Y : Type 0) (h : X → Y) (p : Ptr) (b : Storage X) → view Y (fields.map X Y h (inside p b)) ≡ (list this).map X Y h (view X (inside p b))
   natural Y h p (One xs) = refl
   natural Y h p (Two xs) = refl
   natural Y h p (Many xs) = refl
@@ -107,30 +107,30 @@ module _ (R S : RattleType) (h : R.Denot → S.Denot) where
   abbrev mapped : List R.Denot → List S.Denot
   mapped = (list this).map R.Denot S.Denot h
 
-  abbrev body_mapped : Body R.Denot → Body S.Denot
-  body_mapped = bodies.map R.Denot S.Denot h
+  abbrev storage_mapped : Storage R.Denot → Storage S.Denot
+  storage_mapped = storages.map R.Denot S.Denot h
 
-  abbrev each_mapped : Mapss (B.enum R).parts (B.enum S).parts
+  abbrev each_mapped : Mapss (T.enum R).parts (T.enum S).parts
   each_mapped = ((mapped, tt), ((mapped, tt), ((mapped, tt), tt)))
 
-  variant : (b : Body R.Denot)
-      → (B.enum S).as_values (body_mapped b)
-      ≡ eachs (B.enum R).parts (B.enum S).parts each_mapped ((B.enum R).as_values b)
+  variant : (b : Storage R.Denot)
+      → (T.enum S).as_values (storage_mapped b)
+      ≡ eachs (T.enum R).parts (T.enum S).parts each_mapped ((T.enum R).as_values b)
   variant (One xs) = refl
   variant (Two xs) = refl
   variant (Many xs) = refl
 
-  body_places : Alike R S h → Alike (B.the_row R) (B.the_row S) body_mapped
-  body_places a = enum_places (B.enum R) (B.enum S) each_mapped body_mapped variant refl
+  storage_places : Alike R S h → Alike (T.the_row R) (T.the_row S) storage_mapped
+  storage_places a = enum_places (T.enum R) (T.enum S) each_mapped storage_mapped variant refl
       ((laid _ _ _ (Array-places R S h a 1), tt), ((laid _ _ _ (Array-places R S h a 2), tt), ((laid _ _ _ (items.the_places R S h a), tt), tt)))
 
   pub the_places : Alike R S h → Alike (C.the_row R) (C.the_row S) ((the_former this).map R.Denot S.Denot h)
-  the_places a = view_places fields (list this) view (λ X Y k u. natural X Y k u.body.ptr u.body.value) (λ X u. keeps X u.body.ptr u.body.value) R.Denot S.Denot h
+  the_places a = view_places fields (list this) view (λ X Y k u. natural X Y k u.storage.ptr u.storage.value) (λ X u. keeps X u.storage.ptr u.storage.value) R.Denot S.Denot h
       (C.the_row R).coded (C.the_row S).coded
       (invariant R.Denot) (invariant S.Denot) (λ u p q. refl) (λ u p q. refl) (λ u e. tt) (λ u e. tt)
       (over (J.the_row R)) (over (J.the_row S))
-      (struct_places (J.the_type R) (J.the_type S) ((λ b. with_value b (body_mapped b.value)), tt) _ (λ d. refl) refl
-      (laid _ _ _ (arc_places (B.the_row R) (B.the_row S) body_mapped (body_places a)), tt))
+      (struct_places (J.the_type R) (J.the_type S) ((λ b. with_value b (storage_mapped b.value)), tt) _ (λ d. refl) refl
+      (laid _ _ _ (arc_places (T.the_row R) (T.the_row S) storage_mapped (storage_places a)), tt))
 
   pub the_codes_placed : Recodes R S h → Recodes (C.the_row R) (C.the_row S) ((the_former this).map R.Denot S.Denot h)
   the_codes_placed e d = sym (code_map R.coded.code S.coded.code h (λ x. sym (e x)) d)

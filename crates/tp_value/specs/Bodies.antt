@@ -1,9 +1,0 @@
--- The items of a shared list, wherever they lie.
-use Rattle.std.specs.Prelude.{List}
-use Rattle.tp_value.specs.declared.shared.Body.{Body}
-use Rattle.tp_value.specs.declared.shared.Body.TheVariants.{One, Two, Many}
-
-abbrev pub items_of : {X : Type 0} → Body X → List X
-items_of (One xs) = xs
-items_of (Two xs) = xs
-items_of (Many xs) = xs
