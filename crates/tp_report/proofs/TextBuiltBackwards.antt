@@ -12,14 +12,14 @@ put_before start end old bytes fits within =
     ∙ ap (λ l. bytes ++ l) (drop-drop (end - start) start old ∙ ap (λ k. drop k old) (omega arith))
 
 -- four pieces that were put one before the other, the last at the end
-pub all_put : (o : Option ℕ) (empty last third second first : List ℕ) (z y x : ℕ) (a b c d : List ℕ) → length empty ≡ 128
-    → (z ≤ 128) × (drop z last ≡ d ++ drop 128 empty)
+pub all_put : (o : Option ℕ) (empty last third second first : List ℕ) (z y x : ℕ) (a b c d : List ℕ) → length empty ≡ 64
+    → (z ≤ 64) × (drop z last ≡ d ++ drop 64 empty)
     → (y ≤ z) × (drop y third ≡ c ++ drop z last)
     → (x ≤ y) × (drop x second ≡ b ++ drop y third)
     → IfSome o (λ s. (s ≤ x) × (drop s first ≡ a ++ drop x second))
-    → IfSome o (λ s. (s ≤ 128) × (drop s first ≡ a ++ (b ++ (c ++ d))))
+    → IfSome o (λ s. (s ≤ 64) × (drop s first ≡ a ++ (b ++ (c ++ d))))
 all_put None empty last third second first z y x a b c d long p q r w = tt
 all_put (Some s) empty last third second first z y x a b c d long p q r w = (
   omega (arith, p.0, q.0, r.0, w.0),
-  w.1 ∙ ap (λ l. a ++ l) (r.1 ∙ ap (λ l. b ++ l) (q.1 ∙ ap (λ l. c ++ l) (p.1 ∙ ap (λ l. d ++ l) (drop_all 128 empty (omega arith)) ∙ append-nil d))),
+  w.1 ∙ ap (λ l. a ++ l) (r.1 ∙ ap (λ l. b ++ l) (q.1 ∙ ap (λ l. c ++ l) (p.1 ∙ ap (λ l. d ++ l) (drop_all 64 empty (omega arith)) ∙ append-nil d))),
 )

@@ -1,5 +1,5 @@
 -- How the lines on messages begin.
-use Rattle.std.specs.Prelude.{◌≡◌, ◌≤◌, ℕ, List, ◌++◌, Some, codes, drop}
+use Rattle.std.specs.Prelude.{◌≡◌, ◌≤◌, ℕ, List, ◌++◌, All, Some, codes, drop}
 use Rattle.tp_config.specs.Setup.{Setup, IsComponent, IsPort}
 use Rattle.tp_report.specs.declared.opening.Fate.{Fate}
 use Rattle.tp_report.specs.declared.opening.Fate.TheVariants as fate
@@ -7,6 +7,7 @@ use Rattle.tp_report.specs.declared.opening.Opening.{Opening}
 use Rattle.tp_report.specs.declared.opening.Opening.TheVariants as opening
 use Rattle.tp_report.specs.declared.opening.OpeningPieces.{OpeningPieces}
 use Rattle.tp_report.specs.declared.opening.KeptOpening.{KeptOpening}
+use Rattle.tp_report.specs.declared.opening.KeptOpenings.{KeptOpenings}
 use Rattle.tp_report.specs.ReportWords.{component_name, full_name, port_name}
 
 -- the word for what happened to a message, with the space after it
@@ -33,5 +34,9 @@ NamesKnown s (opening.At happened port sender) = IsPort s port × IsComponent s 
 
 -- the kept text, if there is one, is the text of the kept opening
 pub record HasItsText (s : Setup) (b : KeptOpening) : Type 0 where
-  pub within : b.start ≤ 128
+  pub within : b.start ≤ 64
   pub same : (o : Opening) → b.of ≡ Some o → drop b.start b.text ≡ opening_text s o
+
+-- the same of all that are kept
+abbrev pub HaveTheirTexts : Setup → KeptOpenings → Type 0
+HaveTheirTexts s k = All (HasItsText s) k.all

@@ -4,11 +4,11 @@ ghost use Rattle.std.specs.List.{flat_map};
 ghost use Rattle.tp_common.specs.Watching.{Writes};
 ghost use Rattle.tp_config.specs.Setup.{IsComponent, IsPort};
 ghost use Rattle.tp_report.specs.Lines.{arrival_text, entry_text, component_port, sender_of};
-ghost use Rattle.tp_report.specs.LineOpenings.{HasItsText};
+ghost use Rattle.tp_report.specs.LineOpenings.{HaveTheirTexts};
 ghost use Rattle.tp_report.specs.Reports.{IsKnown};
 
 use crate::lines::{write_failure, write_noted, write_port, write_sent, write_verdict};
-use crate::opening::{Fate, KeptOpening, KeptOpenings};
+use crate::opening::{Fate, KeptOpenings};
 use crate::telling::Telling;
 use std::io::Write;
 use tp_common::watched::{Watched, write_bytes};
@@ -35,15 +35,15 @@ fn write_arrival<W: Write>(
     telling: Telling,
     port: PortRef,
     env: &NotedEnvelope,
-    kept: &mut KeptOpening,
+    kept: &mut KeptOpenings,
     out: &mut Watched<W>,
 )
     requires port { IsPort test_case.now.config port }
     requires sender { IsComponent test_case.now.config (sender_of env.now) }
-    requires kept { HasItsText test_case.now.config kept.old }
+    requires kept { HaveTheirTexts test_case.now.config kept.old }
     ensures written { Writes W.contents out.old out.new
         (arrival_text telling test_case.now port env.now) }
-    ensures kept { HasItsText test_case.now.config kept.new }
+    ensures kept { HaveTheirTexts test_case.now.config kept.new }
 {
     match telling {
         Telling::Report => {}
@@ -61,27 +61,23 @@ fn write_entry<W: Write>(
     out: &mut Watched<W>,
 )
     requires known { IsKnown test_case.now.config comp entry.now }
-    requires sent { HasItsText test_case.now.config kept.old.sent }
-    requires received { HasItsText test_case.now.config kept.old.received }
+    requires kept { HaveTheirTexts test_case.now.config kept.old }
     ensures written { Writes W.contents out.old out.new
         (entry_text telling test_case.now comp entry.now) }
-    ensures sent { HasItsText test_case.now.config kept.new.sent }
-    ensures received { HasItsText test_case.now.config kept.new.received }
+    ensures kept { HaveTheirTexts test_case.now.config kept.new }
 {
-    let sent = &mut kept.sent;
-    let noted = &mut kept.received;
     match entry {
         Entry::Sent(route, number, message) => {
-            write_sent(test_case, route.id(), *number as u64, message, sent, out)
+            write_sent(test_case, route.id(), *number as u64, message, kept, out)
         }
         Entry::Took(port, _, env) => {
-            write_noted(test_case, Fate::Took, at(comp, *port), env, noted, out)
+            write_noted(test_case, Fate::Took, at(comp, *port), env, kept, out)
         }
         Entry::Found(port, _, env) => {
-            write_noted(test_case, Fate::Found, at(comp, *port), env, noted, out)
+            write_noted(test_case, Fate::Found, at(comp, *port), env, kept, out)
         }
         Entry::Dropped(port, _, env) => {
-            write_noted(test_case, Fate::Dropped, at(comp, *port), env, noted, out)
+            write_noted(test_case, Fate::Dropped, at(comp, *port), env, kept, out)
         }
         Entry::Cleared(port) => write_port(test_case, b"cleared ", port_at(comp, *port), out),
         Entry::Started(port) => write_port(test_case, b"started ", port_at(comp, *port), out),
@@ -91,7 +87,7 @@ fn write_entry<W: Write>(
         Entry::Verdict(verdict) => write_verdict(b"set ", *verdict, out),
         Entry::Failed(fault) => write_failure(b"failed ", *fault, out),
         Entry::Arrive(port, _, env) => {
-            write_arrival(test_case, telling, at(comp, *port), env, noted, out)
+            write_arrival(test_case, telling, at(comp, *port), env, kept, out)
         }
     }
 }

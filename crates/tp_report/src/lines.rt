@@ -7,11 +7,11 @@ ghost use Rattle.tp_config.specs.Setup.{IsComponent, IsPort};
 ghost use Rattle.tp_inbox.specs.Faults.{send_refusal};
 ghost use Rattle.tp_report.specs.ReportWords.{component_name, line, message_text, port_name, rest_of_line};
 ghost use Rattle.tp_report.specs.ReportWords.{verdict_word};
-ghost use Rattle.tp_report.specs.LineOpenings.{HasItsText, NamesKnown, fate_word, opening_text};
+ghost use Rattle.tp_report.specs.LineOpenings.{HaveTheirTexts, NamesKnown, fate_word, opening_text};
 ghost use Rattle.tp_report.specs.Lines.{end_text, heading, sender_of, sent_line};
 
-use crate::opening::{Fate, KeptOpening, Opening, write_opening};
-use crate::rest::write_opened;
+use crate::opening::{Fate, KeptOpenings, Opening, write_opening};
+use crate::rest::write_rest;
 use crate::words::{verdict_word, write_component_name, write_port_name};
 use std::io::Write;
 use tp_common::event::Env;
@@ -74,29 +74,25 @@ pub fn write_port<W: Write>(test_case: &TestCase, word: &[u8], port: PortRef, ou
     write_bytes(b"\n", out)
 }
 
-/// Writes a line on a message. If there is room for its opening, the opening is kept for the next
-/// line.
+/// Writes a line on a message.
 fn write_line<W: Write>(
     test_case: &TestCase,
     opening: Opening,
     number: u64,
     ty: Ty,
     value: &Value,
-    kept: &mut KeptOpening,
+    kept: &mut KeptOpenings,
     out: &mut Watched<W>,
 )
     requires named { NamesKnown test_case.now.config opening }
-    requires kept { HasItsText test_case.now.config kept.old }
+    requires kept { HaveTheirTexts test_case.now.config kept.old }
     ensures written { Writes W.contents out.old out.new (opening_text test_case.now.config opening
         ++ rest_of_line (decimal number
         ∷ message_text test_case.now.types record { ty = ty; value = value.now } ∷ [])) }
-    ensures kept { HasItsText test_case.now.config kept.new }
+    ensures kept { HaveTheirTexts test_case.now.config kept.new }
 {
-    if kept.holds(test_case.config(), opening) {
-        return write_opened(kept.text(), test_case.types(), number, ty, value, out);
-    }
-    write_opening(test_case.config(), opening, out);
-    write_opened(b"", test_case.types(), number, ty, value, out)
+    write_opening(test_case.config(), opening, kept, out);
+    write_rest(test_case.types(), number, ty, value, out)
 }
 
 pub fn write_envelope<W: Write>(
@@ -104,17 +100,17 @@ pub fn write_envelope<W: Write>(
     fate: Fate,
     port: PortRef,
     env: &Env<Message>,
-    kept: &mut KeptOpening,
+    kept: &mut KeptOpenings,
     out: &mut Watched<W>,
 )
     requires port { IsPort test_case.now.config port }
     requires sender { IsComponent test_case.now.config (sender_of env.now) }
-    requires kept { HasItsText test_case.now.config kept.old }
+    requires kept { HaveTheirTexts test_case.now.config kept.old }
     ensures written { Writes W.contents out.old out.new
         (fate_word fate ++ line (port_name test_case.now.config port ∷ component_name
         test_case.now.config (sender_of env.now) ∷ decimal env.now.number ∷ message_text
         test_case.now.types env.now.msg ∷ [])) }
-    ensures kept { HasItsText test_case.now.config kept.new }
+    ensures kept { HaveTheirTexts test_case.now.config kept.new }
 {
     let opening = Opening::At(fate, port, CompId(env.sender));
     write_line(
@@ -134,17 +130,17 @@ pub fn write_noted<W: Write>(
     fate: Fate,
     port: PortRef,
     env: &NotedEnvelope,
-    kept: &mut KeptOpening,
+    kept: &mut KeptOpenings,
     out: &mut Watched<W>,
 )
     requires port { IsPort test_case.now.config port }
     requires sender { IsComponent test_case.now.config (sender_of env.now) }
-    requires kept { HasItsText test_case.now.config kept.old }
+    requires kept { HaveTheirTexts test_case.now.config kept.old }
     ensures written { Writes W.contents out.old out.new
         (fate_word fate ++ line (port_name test_case.now.config port ∷ component_name
         test_case.now.config (sender_of env.now) ∷ decimal env.now.number ∷ message_text
         test_case.now.types env.now.msg ∷ [])) }
-    ensures kept { HasItsText test_case.now.config kept.new }
+    ensures kept { HaveTheirTexts test_case.now.config kept.new }
 {
     let opening = Opening::At(fate, port, CompId(env.sender()));
     write_line(
@@ -163,14 +159,14 @@ pub fn write_sent<W: Write>(
     route: RouteId,
     number: u64,
     sent: &NotedMessage,
-    kept: &mut KeptOpening,
+    kept: &mut KeptOpenings,
     out: &mut Watched<W>,
 )
     requires port { IsPort test_case.now.config route.to }
-    requires kept { HasItsText test_case.now.config kept.old }
+    requires kept { HaveTheirTexts test_case.now.config kept.old }
     ensures written { Writes W.contents out.old out.new
         (sent_line test_case.now route number sent.now.message) }
-    ensures kept { HasItsText test_case.now.config kept.new }
+    ensures kept { HaveTheirTexts test_case.now.config kept.new }
 {
     write_line(
         test_case,

@@ -1,9 +1,9 @@
-//! The openings of lines on messages. Most are like the last one of their kind, which is therefore
-//! kept.
-ghost use Rattle.std.specs.Prelude.{◌≡◌, ◌≤◌, ◌++◌, ◌↔◌, IfSome, IsTrue, drop, length};
+//! The openings of lines on messages. Most are like one before, which is therefore kept.
+ghost use Rattle.std.specs.Prelude.{◌≡◌, ◌<◌, ◌≤◌, ◌++◌, ◌↔◌, IfSome, IsTrue, drop, length};
 ghost use Rattle.tp_common.specs.Watching.{Writes};
 ghost use Rattle.tp_config.specs.Setup.{Setup};
-ghost use Rattle.tp_report.specs.LineOpenings.{HasItsText, NamesKnown, opening_text, pieces_text, fate_word};
+ghost use Rattle.tp_report.specs.LineOpenings.{HasItsText, HaveTheirTexts, NamesKnown, fate_word};
+ghost use Rattle.tp_report.specs.LineOpenings.{opening_text, pieces_text};
 
 use crate::backward::put_bytes;
 use crate::words::{component_name, port_name};
@@ -13,7 +13,10 @@ use tp_config::config::Config;
 use tp_config::port_type::{CompId, PortRef};
 
 /// Room for the text of an opening. A longer one is written piece by piece.
-const ROOM: usize = 128;
+const ROOM: usize = 64;
+
+/// Two places for each component, as receiver and as sender: a configuration has 64 components.
+const PLACES: usize = 128;
 
 #[derive(Clone, Copy, PartialEq, Eq)]
 pub enum Fate {
@@ -79,6 +82,16 @@ impl Opening {
         }
     }
 
+    /// Where this opening is kept.
+    fn place(self) -> usize
+        ensures { result < 128 }
+    {
+        match self {
+            Opening::Sent(to) => to.comp.0 as usize % 64,
+            Opening::At(_, _, sender) => 64 + sender.0 as usize % 64,
+        }
+    }
+
     fn pieces(self, config: &Config) -> OpeningPieces<'_>
         requires { NamesKnown config.now self }
         ensures { pieces_text result ≡ opening_text config.now self }
@@ -112,7 +125,7 @@ fn try_put(bytes: &[u8], text: &mut [u8], end: usize) -> Option<usize>
 }
 
 fn put_pieces(pieces: OpeningPieces<'_>, text: &mut [u8; ROOM]) -> Option<usize>
-    ensures { IfSome result (λ start. (start ≤ 128) × (drop start text.new
+    ensures { IfSome result (λ start. (start ≤ 64) × (drop start text.new
         ≡ pieces_text pieces.entry)) }
 {
     // From the last piece to the first, so that the text ends at the end of the room.
@@ -122,11 +135,9 @@ fn put_pieces(pieces: OpeningPieces<'_>, text: &mut [u8; ROOM]) -> Option<usize>
     try_put(pieces.word, text, front)
 }
 
-pub fn write_opening<W: Write>(config: &Config, opening: Opening, out: &mut Watched<W>)
-    requires { NamesKnown config.now opening }
-    ensures { Writes W.contents out.old out.new (opening_text config.now opening) }
+fn write_pieces<W: Write>(pieces: OpeningPieces<'_>, out: &mut Watched<W>)
+    ensures { Writes W.contents out.old out.new (pieces_text pieces.entry) }
 {
-    let pieces = opening.pieces(config);
     write_bytes(pieces.word, out);
     write_bytes(pieces.front, out);
     write_bytes(pieces.between, out);
@@ -134,8 +145,8 @@ pub fn write_opening<W: Write>(config: &Config, opening: Opening, out: &mut Watc
 }
 
 /// The last opening that was put together, with its text.
-#[derive(Drop)]
-pub struct KeptOpening {
+#[derive(Clone, Copy)]
+struct KeptOpening {
     /// `None` before the first opening, and if the last one had no room.
     of: Option<Opening>,
     /// The text of the opening, at the end of the array.
@@ -146,7 +157,7 @@ pub struct KeptOpening {
 impl KeptOpening {
     ghost use Rattle.tp_report.specs.LineOpenings.{HasItsText};
 
-    pub fn new() -> KeptOpening
+    fn new() -> KeptOpening
         ensures { (setup : Setup) → HasItsText setup result }
     {
         KeptOpening {
@@ -184,7 +195,7 @@ impl KeptOpening {
     }
 
     /// Keeps this opening if it isn't kept yet. Returns false if there is no room for its text.
-    pub fn holds(&mut self, config: &Config, opening: Opening) -> bool
+    fn holds(&mut self, config: &Config, opening: Opening) -> bool
         requires named { NamesKnown config.now opening }
         requires kept { HasItsText config.now self.old }
         ensures kept { HasItsText config.now self.new }
@@ -194,31 +205,61 @@ impl KeptOpening {
     }
 
     /// The text of the opening that is kept.
-    pub fn text(&self) -> &[u8]
-        requires { self.now.start ≤ 128 }
-        ensures text { result.now ≡ drop self.now.start self.now.text }
-        ensures short { length result.now ≤ 128 }
+    fn text(&self) -> &[u8]
+        requires { self.now.start ≤ 64 }
+        ensures { result.now ≡ drop self.now.start self.now.text }
     {
         &self.text[self.start..]
     }
 }
 
-/// The openings kept while a history is written: one for each direction, because lines on sent and
-/// on received messages often alternate.
+/// The openings kept while a history is written. Lines on messages to or from many components often
+/// alternate, so that one place would be used anew for each line.
 #[derive(Drop)]
 pub struct KeptOpenings {
-    pub sent: KeptOpening,
-    pub received: KeptOpening,
+    all: [KeptOpening; PLACES],
 }
 
 impl KeptOpenings {
+    ghost use Rattle.tp_report.specs.LineOpenings.{HaveTheirTexts};
+
     pub fn new() -> KeptOpenings
-        ensures sent { (setup : Setup) → HasItsText setup result.sent }
-        ensures received { (setup : Setup) → HasItsText setup result.received }
+        ensures { (setup : Setup) → HaveTheirTexts setup result }
     {
         KeptOpenings {
-            sent: KeptOpening::new(),
-            received: KeptOpening::new(),
+            all: [KeptOpening::new(); PLACES],
         }
     }
+}
+
+fn write_kept<W: Write>(
+    config: &Config,
+    opening: Opening,
+    kept: &mut KeptOpening,
+    out: &mut Watched<W>,
+)
+    requires named { NamesKnown config.now opening }
+    requires kept { HasItsText config.now kept.old }
+    ensures written { Writes W.contents out.old out.new (opening_text config.now opening) }
+    ensures kept { HasItsText config.now kept.new }
+{
+    if kept.holds(config, opening) {
+        return write_bytes(kept.text(), out);
+    }
+    write_pieces(opening.pieces(config), out)
+}
+
+/// Writes an opening. If there is room for its text, the text is kept for the next line like it.
+pub fn write_opening<W: Write>(
+    config: &Config,
+    opening: Opening,
+    kept: &mut KeptOpenings,
+    out: &mut Watched<W>,
+)
+    requires named { NamesKnown config.now opening }
+    requires kept { HaveTheirTexts config.now kept.old }
+    ensures written { Writes W.contents out.old out.new (opening_text config.now opening) }
+    ensures kept { HaveTheirTexts config.now kept.new }
+{
+    write_kept(config, opening, &mut kept.all[opening.place()], out)
 }

@@ -5,7 +5,7 @@ use Rattle.tp_report.proofs.entry_texts.write_entries.Goals as goal
 pub loop-entry-init : goal.loop-entry-init
 loop-entry-init g c =
     let s = c.args.test_case.now.config in
-    record { written = nothing_yet g.W.Write.contents _; sent = c.new-kept.ensures.sent s; received = c.new-kept.ensures.received s }
+    record { written = nothing_yet g.W.Write.contents _; kept = c.new-kept.ensures s }
 
 pub loop-entry-preserved : goal.loop-entry-preserved
 loop-entry-preserved g c =
@@ -13,6 +13,5 @@ loop-entry-preserved g c =
     record {
       written = one_more g.W.Write.contents _ c.args.entries.now c.loop-entry.entry-index c.entry-item.result c.loop-entry-test.true c.entry-item.is _ _ _
           c.loop-entry.invariant.written done.written;
-      sent = done.sent;
-      received = done.received;
+      kept = done.kept;
     }

@@ -1,6 +1,7 @@
 -- Each port is one of the component, the senders of what is left there are components, and its lines come next.
 use Rattle.std.proofs.Common.{◌<◌, ap, length, subst, sym, arith}
 use Rattle.std.specs.Prelude.{All}
+use Rattle.tp_common.proofs.WatchedWriterGrowth.{nothing_yet}
 use Rattle.tp_queue.specs.Queues.{QueueState}
 use Rattle.tp_value.specs.declared.message.Message.{Message}
 use Rattle.tp_config.specs.Setup.{IsComponent, IsPort, ports_at}
@@ -29,7 +30,12 @@ write_queued-requires-clause-senders g c =
     subst (All (λ e. IsComponent s (sender_of e))) (sym (ap (λ (q : QueueState Message). q.entries) c.queue.ensures.state))
     (senders s c.args.desk.now.comp c.loop-place.place c.args.desk.now.log c.requires.own.known)
 
+pub loop-place-init : goal.loop-place-init
+loop-place-init g c = (nothing_yet g.W.Write.contents _, c.new-kept.ensures c.args.test_case.now.config)
+
 pub loop-place-preserved : goal.loop-place-preserved
-loop-place-preserved g c =
-    left_more g.W.Write.contents c.args.test_case.now c.args.desk.now c.loop-place.place c.comp-comp.result c.queue.result.now.entries c.comp-comp.ensures
-    (ap (λ (q : QueueState Message). q.entries) c.queue.ensures.state) _ _ _ c.loop-place.invariant c.write_queued.ensures
+loop-place-preserved g c = (
+  left_more g.W.Write.contents c.args.test_case.now c.args.desk.now c.loop-place.place c.comp-comp.result c.queue.result.now.entries c.comp-comp.ensures
+      (ap (λ (q : QueueState Message). q.entries) c.queue.ensures.state) _ _ _ c.loop-place.invariant.0 c.write_queued.ensures.written,
+  c.write_queued.ensures.kept,
+)

@@ -10,7 +10,7 @@ use Rattle.tp_report.proofs.left.write_queued.Goals.{in-Some, in_default}
 use Rattle.tp_report.proofs.left.write_queued.Goals as goal
 
 pub loop-place-init : goal.loop-place-init
-loop-place-init g c = (nothing_yet g.W.Write.contents _, c.new-kept.ensures c.args.test_case.now.config)
+loop-place-init g c = (nothing_yet g.W.Write.contents _, c.requires.kept)
 
 pub write_envelope-requires-clause-sender : goal.write_envelope-requires-clause-sender
 write_envelope-requires-clause-sender g c =
