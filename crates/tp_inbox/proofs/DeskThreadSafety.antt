@@ -25,7 +25,7 @@ pub entry_send : IsSend entry.the_row
 entry_send = search (sendable, crosses, noted_envelope_field_send, noted_message_field_send) depth 40 fits 20000
 
 desk_inside_send : IsSend desk_inside.the_row
-desk_inside_send = search (sendable, crosses, knot, shared_send, shared_sync, message_send, entry_send) depth 40 fits 20000
+desk_inside_send = search (sendable, crosses, knot, message_send, entry_send) depth 40 fits 20000
 
 pub desk_send : IsSend desk.the_row
 desk_send = search (sendable, crosses, desk_inside_send) depth 40

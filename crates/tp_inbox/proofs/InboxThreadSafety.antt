@@ -2,7 +2,6 @@
 -- A message holds values of a recursive type, so `search` has to be told of the values first, and then of each type in turn.
 use denote.Param.Send.{IsSend, IsSync, sendable}
 use Rattle.std.proofs.Crossing.{crosses}
-use Rattle.tp_value.proofs.shared.Shared.TheSendSync.{the_send as shared_send, the_sync as shared_sync}
 use Rattle.tp_value.proofs.value.Value.TheLaws.TheKnot.{crosses_both as knot}
 use Rattle.tp_config.proofs.port_type.RouteId.TheSendSync.{the_send as route_send}
 use Rattle.crossbeam_queue.proofs.seg_queue.Chained.TheSendSync.{the_send as chained_send, the_sync as chained_sync}
@@ -28,7 +27,7 @@ pub channel_sync : IsSync channel.the_row
 channel_sync = search (sendable, crosses, envelope_send, notifier_send, chained_sync, ends_sync) depth 30
 
 owner_inside_send : IsSend owner_inside.the_row
-owner_inside_send = search (sendable, crosses, knot, shared_send, shared_sync, message_send, envelope_send, channel_send, channel_sync, seat_send, route_send) depth 40 fits 20000
+owner_inside_send = search (sendable, crosses, knot, message_send, envelope_send, channel_send, channel_sync, seat_send, route_send) depth 40 fits 20000
 
 pub owner_send : IsSend owner.the_row
 owner_send = search (sendable, crosses, owner_inside_send) depth 40

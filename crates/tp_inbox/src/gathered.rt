@@ -60,7 +60,9 @@ impl Model for Gathered {
     ghost invariant = { IsGathered };
 }
 
-fn with_hand(channel: &Channel, mut rest: Rest, hand: Option<InboxEnvelope>) -> Rest
+/// Begins the rest with the hand, with room for so many messages more. Without this room the rest
+/// grows as it is filled.
+fn with_hand(channel: &Channel, mut rest: Rest, hand: Option<InboxEnvelope>, more: usize) -> Rest
     requires empty { rest.items ≡ [] }
     requires room { 1 ≤ vec_capacity rest }
     requires routed { AreRouted (length channel.now.routes.items) (one_of hand) }
@@ -69,6 +71,7 @@ fn with_hand(channel: &Channel, mut rest: Rest, hand: Option<InboxEnvelope>) -> 
     if let Some(envelope) = hand {
         rest.push_reserved(channel.addressed(envelope));
     }
+    let _ = rest.reserve(more);
     rest
 }
 
@@ -106,9 +109,9 @@ pub fn gather<R: Wait>(rt: &R, owner: Owner, senders: Vec<Sender>) -> Gathered
         channel.queue.absorb::<Route>(&mut pass, other);
         sources.push_reserved(source);
     }
-    // For its clause: all that was put was taken out, or is in the queue.
-    channel.queue.len_as::<TakeOut, R>(rt, &mut pass);
-    let rest = with_hand(&channel, rest, hand);
+    // Also for its clause: all that was put was taken out, or is in the queue.
+    let left = channel.queue.len_as::<TakeOut, R>(rt, &mut pass);
+    let rest = with_hand(&channel, rest, hand, left);
     Gathered {
         channel,
         pass,

@@ -43,8 +43,8 @@ pub absorb-requires-clause-rule : goal.absorb-requires-clause-rule
 absorb-requires-clause-rule g c =
     joins_as _ _ _ _ _ _ _ c.sender.inside.places.items c.sender.inside.pass.me.view.client.put c.loop-sender.invariant.view c.sender.invariant.view
 
-pub len_as-requires-clause-rule : goal.len_as-requires-clause-rule
-len_as-requires-clause-rule g c = learns_as _ _ _ _ _ c.loop-sender.invariant.view
+pub len_as-left-requires-clause-rule : goal.len_as-left-requires-clause-rule
+len_as-left-requires-clause-rule g c = learns_as _ _ _ _ _ c.loop-sender.invariant.view
 
 pub loop-sender-preserved : goal.loop-sender-preserved
 loop-sender-preserved g c =
@@ -99,19 +99,19 @@ with_hand-rest-requires-clause-routed g c =
     (hand_routed _ _ c.owner.inside.pass.me.view.client.taken c.owner.inside.hand owner.split_off owner.sound.routed owner.ends)
 
 -- what the owner's pass knows, and what was taken out
-known_all : (g : _) (c : goal.After-drop-owner-inside-5 g) → Knowing (arc_value c.owner.inside.channel) c.len_as.new.pass.me.view.client
-    (sent_by (arc_value c.owner.inside.channel).routes.items c.loop-sender.sources.items c.len_as.new.pass.me.view.client.known)
-    × (arrivals_of (arc_value c.owner.inside.channel).routes.items c.len_as.new.pass.me.view.client.taken
+known_all : (g : _) (c : goal.After-drop-owner-inside-5 g) → Knowing (arc_value c.owner.inside.channel) c.len_as-left.new.pass.me.view.client
+    (sent_by (arc_value c.owner.inside.channel).routes.items c.loop-sender.sources.items c.len_as-left.new.pass.me.view.client.known)
+    × (arrivals_of (arc_value c.owner.inside.channel).routes.items c.len_as-left.new.pass.me.view.client.taken
     ≡ arrivals_of (arc_value c.owner.inside.channel).routes.items (envelopes_before c.owner.inside.pass.me.view.client.taken (one_of c.owner.inside.hand))
     ++ rest_arrivals c.with_hand-rest.result.items)
-    × (c.len_as.new.pass.me.view.client.known ≡ c.loop-sender.pass.me.view.client.known)
+    × (c.len_as-left.new.pass.me.view.client.known ≡ c.loop-sender.pass.me.view.client.known)
 known_all g c =
     let was = c.loop-sender.invariant in
     let owner = c.owner.invariant in
     let channel = arc_value c.owner.inside.channel in
     let v = c.owner.inside.pass.me.view.client in
-    let j = joined v c.loop-sender.pass.me.view.client c.len_as.new.pass.me.view.client
-    c.loop-sender.pass.me.view.client.known _ owner.sound was.view c.len_as.ensures.queue.2 c.len_as.ensures.rule in (
+    let j = joined v c.loop-sender.pass.me.view.client c.len_as-left.new.pass.me.view.client
+    c.loop-sender.pass.me.view.client.known _ owner.sound was.view c.len_as-left.ensures.queue.2 c.len_as-left.ensures.rule in (
       record {
         sound = j.0;
         split_off = j.1 ∙ owner.split_off;
@@ -143,5 +143,5 @@ returns-clause-routed g c = (owner_arrivals c.owner.inside _ c.owner.invariant c
 pub returns-clause-begun : goal.returns-clause-begun
 returns-clause-begun g c =
     let k = known_all g c in
-    begun_at (arc_value c.owner.inside.channel) c.len_as.new.pass.me.view.client _ _ _ k.0
+    begun_at (arc_value c.owner.inside.channel) c.len_as-left.new.pass.me.view.client _ _ _ k.0
     (front_and_back _ _ (rest_arrivals c.with_hand-rest.result.items) k.1) (ap (λ (d : Draining). d.inbox.comp) c.owner.view_is)
