@@ -236,8 +236,7 @@ impl<'a, 't> Parser<'a, 't> {
             let end = self.end();
             return Ok(CasePart { action, end });
         }
-        let part = self.case_all()?;
-        Ok(part)
+        self.case_all()
     }
 
     /// Passes a statement, or `all component.done`.
@@ -254,8 +253,7 @@ impl<'a, 't> Parser<'a, 't> {
             let end = self.end();
             return Ok(CasePart { action, end });
         }
-        let part = self.case_unnamed(alloc)?;
-        Ok(part)
+        self.case_unnamed(alloc)
     }
 
     /// Passes the start of a component, or an operation on a port, after the dot.
@@ -301,11 +299,9 @@ impl<'a, 't> Parser<'a, 't> {
         if self.is_name() {
             let name = self.name(alloc)?;
             self.symbol(Symbol::Dot)?;
-            let part = self.after_name(alloc, name)?;
-            return Ok(part);
+            return self.after_name(alloc, name);
         }
-        let part = self.case_unnamed(alloc)?;
-        Ok(part)
+        self.case_unnamed(alloc)
     }
 
     /// Passes any part of a test case's body.
@@ -332,11 +328,9 @@ impl<'a, 't> Parser<'a, 't> {
         }
         if self.is_word(Word::Var) {
             self.pass_word(Word::Var);
-            let part = self.after_var(alloc)?;
-            return Ok(part);
+            return self.after_var(alloc);
         }
-        let part = self.case_action(alloc)?;
-        Ok(part)
+        self.case_action(alloc)
     }
 
     /// Passes the start of a component, or a part that may follow it.
@@ -350,11 +344,9 @@ impl<'a, 't> Parser<'a, 't> {
     {
         if self.is_word(Word::Var) {
             self.pass_word(Word::Var);
-            let part = self.variable(alloc)?;
-            return Ok(part);
+            return self.variable(alloc);
         }
-        let part = self.case_action(alloc)?;
-        Ok(part)
+        self.case_action(alloc)
     }
 
     /// Passes a variable, or a part that may follow it.
@@ -368,11 +360,9 @@ impl<'a, 't> Parser<'a, 't> {
     {
         if self.is_word(Word::Var) {
             self.pass_word(Word::Var);
-            let part = self.variable(alloc)?;
-            return Ok(part);
+            return self.variable(alloc);
         }
-        let part = self.case_statement(alloc)?;
-        Ok(part)
+        self.case_statement(alloc)
     }
 
     /// Passes a part that may stand at this stage.
@@ -389,10 +379,7 @@ impl<'a, 't> Parser<'a, 't> {
             Stage::Setups => self.setup_part(alloc),
             Stage::Starts => self.start_part(alloc),
             Stage::Variables => self.variable_part(alloc),
-            Stage::Statements => {
-                let part = self.case_statement(alloc)?;
-                Ok(part)
-            }
+            Stage::Statements => { self.case_statement(alloc) }
         }
     }
 }

@@ -68,8 +68,7 @@ impl<'a, 't> Parser<'a, 't> {
             let name = self.name(alloc)?;
             return Ok(TypeName::Named(name));
         }
-        let type_name = self.predefined()?;
-        Ok(type_name)
+        self.predefined()
     }
 
     pub fn component(&mut self, alloc: Global) -> Result<ComponentName, Stuck>

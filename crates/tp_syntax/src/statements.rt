@@ -88,8 +88,7 @@ impl<'a, 't> Parser<'a, 't> {
         self.word(Word::All)?;
         self.word(Word::Port)?;
         self.symbol(Symbol::Dot)?;
-        let operation = self.control_word()?;
-        Ok(operation)
+        self.control_word()
     }
 
     pub fn named(&mut self, alloc: Global) -> Result<Plain, Stuck>
@@ -122,8 +121,7 @@ impl<'a, 't> Parser<'a, 't> {
             let operation = self.all_ports()?;
             return Ok(Plain::AllPorts(operation));
         }
-        let plain = self.named(alloc)?;
-        Ok(plain)
+        self.named(alloc)
     }
 }
 

@@ -26,11 +26,9 @@ impl<'a, 't> Parser<'a, 't> {
     {
         if self.is_symbol(Symbol::Minus) {
             self.pass_symbol(Symbol::Minus);
-            let value = self.negated()?;
-            return Ok(value);
+            return self.negated();
         }
-        let value = self.positive()?;
-        Ok(value)
+        self.positive()
     }
 
     fn upper(&mut self) -> Result<Option<i64>, Stuck>
@@ -55,8 +53,7 @@ impl<'a, 't> Parser<'a, 't> {
             let value = self.integer()?;
             return Ok(Template::Int(value));
         }
-        let template = self.uncounted(alloc)?;
-        Ok(template)
+        self.uncounted(alloc)
     }
 
     #[cycle(template)]
@@ -70,8 +67,7 @@ impl<'a, 't> Parser<'a, 't> {
             let name = self.name(alloc)?;
             return Ok(Template::Name(name));
         }
-        let template = self.other(alloc)?;
-        Ok(template)
+        self.other(alloc)
     }
 
     #[cycle(template)]
@@ -85,8 +81,7 @@ impl<'a, 't> Parser<'a, 't> {
             let value = self.integer()?;
             return Ok(Template::Int(value));
         }
-        let template = self.other(alloc)?;
-        Ok(template)
+        self.other(alloc)
     }
 
     #[cycle(template)]
@@ -134,8 +129,7 @@ impl<'a, 't> Parser<'a, 't> {
             return Ok(Template::Pattern(characters));
         }
         self.symbol(Symbol::LeftBrace)?;
-        let template = self.entries(alloc)?;
-        Ok(template)
+        self.entries(alloc)
     }
 
     #[cycle(template)]
@@ -152,8 +146,7 @@ impl<'a, 't> Parser<'a, 't> {
         }
         if self.is_number() {
             let first = self.positive()?;
-            let template = self.after_number(alloc, first)?;
-            return Ok(template);
+            return self.after_number(alloc, first);
         }
         let first = self.uncounted(alloc)?;
         let templates = self.more_templates(alloc, first)?;
@@ -177,8 +170,7 @@ impl<'a, 't> Parser<'a, 't> {
             return Ok(Template::Range(None, high));
         }
         let first = self.negated()?;
-        let template = self.after_number(alloc, first)?;
-        Ok(template)
+        self.after_number(alloc, first)
     }
 
     #[cycle(template)]

@@ -275,8 +275,7 @@ impl<'a, 't> Parser<'a, 't> {
     {
         if self.is_word(Word::Record) {
             self.pass_word(Word::Record);
-            let ended = self.after_record(alloc)?;
-            return Ok(ended);
+            return self.after_record(alloc);
         }
         if self.is_word(Word::Port) {
             self.pass_word(Word::Port);

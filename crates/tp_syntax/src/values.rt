@@ -26,8 +26,7 @@ impl<'a, 't> Parser<'a, 't> {
             let name = self.name(alloc)?;
             return Ok(Value::Name(name));
         }
-        let value = self.unnamed_value(alloc)?;
-        Ok(value)
+        self.unnamed_value(alloc)
     }
 
     #[cycle(value)]
@@ -54,8 +53,7 @@ impl<'a, 't> Parser<'a, 't> {
             return Ok(Value::Text(characters));
         }
         self.symbol(Symbol::LeftBrace)?;
-        let value = self.value_entries(alloc)?;
-        Ok(value)
+        self.value_entries(alloc)
     }
 
     #[cycle(value)]
