@@ -97,14 +97,16 @@ pub fn write_entries<W: Write>(
     telling: Telling,
     comp: CompId,
     entries: &[Entry],
+    kept: &mut KeptOpenings,
     out: &mut Watched<W>,
 )
-    requires { All (IsKnown test_case.now.config comp) entries.now }
-    ensures { Writes W.contents out.old out.new
+    requires known { All (IsKnown test_case.now.config comp) entries.now }
+    requires kept { HaveTheirTexts test_case.now.config kept.old }
+    ensures written { Writes W.contents out.old out.new
         (flat_map (entry_text telling test_case.now comp) entries.now) }
+    ensures kept { HaveTheirTexts test_case.now.config kept.new }
 {
-    let mut kept = KeptOpenings::new();
     for entry in entries {
-        write_entry(test_case, telling, comp, entry, &mut kept, out);
+        write_entry(test_case, telling, comp, entry, kept, out);
     }
 }

@@ -39,19 +39,26 @@ fn write_queued<W: Write>(
     }
 }
 
-pub fn write_left<W: Write>(test_case: &TestCase, desk: &Desk, out: &mut Watched<W>)
+pub fn write_left<W: Write>(
+    test_case: &TestCase,
+    desk: &Desk,
+    kept: &mut KeptOpenings,
+    out: &mut Watched<W>,
+)
     requires own { IsDeskIn test_case.now.config desk.now.comp desk.now }
-    ensures { Writes W.contents out.old out.new (left_below test_case.now desk.now desk.now.ports) }
+    requires kept { HaveTheirTexts test_case.now.config kept.old }
+    ensures written { Writes W.contents out.old out.new
+        (left_below test_case.now desk.now desk.now.ports) }
+    ensures kept { HaveTheirTexts test_case.now.config kept.new }
 {
     // Called for its clause `lawful`: no component has more than 64 ports.
     let _lawful = test_case.config().len();
     let comp = desk.comp();
-    let mut kept = KeptOpenings::new();
     for place in 0..desk.port_count() {
         let port = PortRef {
             comp,
             port: place as u32,
         };
-        write_queued(test_case, port, desk.queue(port.port), &mut kept, out);
+        write_queued(test_case, port, desk.queue(port.port), kept, out);
     }
 }

@@ -213,7 +213,7 @@ impl KeptOpening {
     }
 }
 
-/// The openings kept while a history is written. Lines on messages to or from many components often
+/// The openings kept while a report is written. Lines on messages to or from many components often
 /// alternate, so that one place would be used anew for each line.
 #[derive(Drop)]
 pub struct KeptOpenings {

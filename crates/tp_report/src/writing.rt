@@ -2,11 +2,13 @@
 ghost use Rattle.std.specs.Prelude.{All};
 ghost use Rattle.std.specs.List.{flat_map};
 ghost use Rattle.tp_common.specs.Watching.{Writes};
+ghost use Rattle.tp_report.specs.LineOpenings.{HaveTheirTexts};
 ghost use Rattle.tp_report.specs.Reports.{IsPresent, IsReportable, component_text, told_text};
 
 use crate::entry_texts::write_entries;
 use crate::left::write_left;
 use crate::lines::{write_end, write_heading, write_verdict};
+use crate::opening::KeptOpenings;
 use crate::report::{CompReport, Report};
 use crate::telling::Telling;
 use std::io::Write;
@@ -17,18 +19,21 @@ fn write_component<W: Write>(
     test_case: &TestCase,
     telling: Telling,
     component: &CompReport,
+    kept: &mut KeptOpenings,
     out: &mut Watched<W>,
 )
-    requires { IsPresent test_case.now.config component.now }
-    ensures { Writes W.contents out.old out.new
+    requires present { IsPresent test_case.now.config component.now }
+    requires kept { HaveTheirTexts test_case.now.config kept.old }
+    ensures written { Writes W.contents out.old out.new
         (component_text telling test_case.now component.now) }
+    ensures kept { HaveTheirTexts test_case.now.config kept.new }
 {
     let comp = component.desk.comp();
     write_heading(test_case, comp, out);
-    write_entries(test_case, telling, comp, component.desk.log(), out);
+    write_entries(test_case, telling, comp, component.desk.log(), kept, out);
     write_end(component.ending, out);
     write_verdict(b"verdict ", component.verdict, out);
-    write_left(test_case, &component.desk, out)
+    write_left(test_case, &component.desk, kept, out)
 }
 
 fn write_components<W: Write>(
@@ -41,8 +46,9 @@ fn write_components<W: Write>(
     ensures { Writes W.contents out.old out.new
         (flat_map (component_text telling test_case.now) components.now) }
 {
+    let mut kept = KeptOpenings::new();
     for component in components {
-        write_component(test_case, telling, component, out);
+        write_component(test_case, telling, component, &mut kept, out);
     }
 }
 

@@ -1,11 +1,9 @@
--- At first nothing is written, and nothing is kept; each entry adds its text.
+-- At first nothing is written; each entry adds its text.
 use Rattle.tp_common.proofs.WatchedWriterGrowth.{nothing_yet, one_more}
 use Rattle.tp_report.proofs.entry_texts.write_entries.Goals as goal
 
 pub loop-entry-init : goal.loop-entry-init
-loop-entry-init g c =
-    let s = c.args.test_case.now.config in
-    record { written = nothing_yet g.W.Write.contents _; kept = c.new-kept.ensures s }
+loop-entry-init g c = record { written = nothing_yet g.W.Write.contents _; kept = c.requires.kept }
 
 pub loop-entry-preserved : goal.loop-entry-preserved
 loop-entry-preserved g c =

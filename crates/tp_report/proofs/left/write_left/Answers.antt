@@ -31,7 +31,7 @@ write_queued-requires-clause-senders g c =
     (senders s c.args.desk.now.comp c.loop-place.place c.args.desk.now.log c.requires.own.known)
 
 pub loop-place-init : goal.loop-place-init
-loop-place-init g c = (nothing_yet g.W.Write.contents _, c.new-kept.ensures c.args.test_case.now.config)
+loop-place-init g c = (nothing_yet g.W.Write.contents _, c.requires.kept)
 
 pub loop-place-preserved : goal.loop-place-preserved
 loop-place-preserved g c = (
