@@ -1,4 +1,4 @@
-//! Room for one line.
+//! Room for the rest of a line.
 ghost use Rattle.std.specs.Prelude.{◌≡◌, [], Ok, IsOk};
 ghost use Rattle.std.specs.Io.{WritesAtMost};
 ghost use Rattle.std.specs.Io.KnownBytes.{Keeps, WriteAppends};
@@ -7,11 +7,11 @@ use std::io;
 use std::io::Write;
 use std::marker::Model;
 
-/// Room for most lines.
+/// Room for the rest of most lines.
 const ROOM: usize = 192;
 
-/// A writer that takes a text whole or, without room for it, not at all. So a line that is put
-/// together here in many small pieces costs one write. Contracts see it as what it holds.
+/// A writer that takes a text whole or, without room for it, not at all. So the rest of a line, put
+/// together here in many small pieces, costs one write. Contracts see it as what it holds.
 #[derive(Drop)]
 pub struct LineRoom {
     text: [u8; ROOM],

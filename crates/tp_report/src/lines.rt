@@ -11,7 +11,7 @@ ghost use Rattle.tp_report.specs.LineOpenings.{HaveTheirTexts, NamesKnown, fate_
 ghost use Rattle.tp_report.specs.Lines.{end_text, heading, sender_of, sent_line};
 
 use crate::opening::{Fate, KeptOpenings, Opening, write_opening};
-use crate::rest::write_rest;
+use crate::rest::write_rest_of_line;
 use crate::words::{verdict_word, write_component_name, write_port_name};
 use std::io::Write;
 use tp_common::event::Env;
@@ -92,7 +92,7 @@ fn write_line<W: Write>(
     ensures kept { HaveTheirTexts test_case.now.config kept.new }
 {
     write_opening(test_case.config(), opening, kept, out);
-    write_rest(test_case.types(), number, ty, value, out)
+    write_rest_of_line(test_case.types(), number, ty, value, out)
 }
 
 pub fn write_envelope<W: Write>(

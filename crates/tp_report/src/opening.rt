@@ -86,6 +86,7 @@ impl Opening {
     fn place(self) -> usize
         ensures { result < 128 }
     {
+        // The remainder is the number itself: no configuration has more than 64 components.
         match self {
             Opening::Sent(to) => to.comp.0 as usize % 64,
             Opening::At(_, _, sender) => 64 + sender.0 as usize % 64,
@@ -135,7 +136,7 @@ fn put_pieces(pieces: OpeningPieces<'_>, text: &mut [u8; ROOM]) -> Option<usize>
     try_put(pieces.word, text, front)
 }
 
-fn write_pieces<W: Write>(pieces: OpeningPieces<'_>, out: &mut Watched<W>)
+fn write_opening_pieces<W: Write>(pieces: OpeningPieces<'_>, out: &mut Watched<W>)
     ensures { Writes W.contents out.old out.new (pieces_text pieces.entry) }
 {
     write_bytes(pieces.word, out);
@@ -246,7 +247,7 @@ fn write_kept<W: Write>(
     if kept.holds(config, opening) {
         return write_bytes(kept.text(), out);
     }
-    write_pieces(opening.pieces(config), out)
+    write_opening_pieces(opening.pieces(config), out)
 }
 
 /// Writes an opening. If there is room for its text, the text is kept for the next line like it.

@@ -70,7 +70,13 @@ fn write_in_one_piece<W: Write>(
 }
 
 /// Writes what follows the opening, in one piece if it has room.
-pub fn write_rest<W: Write>(types: &Types, number: u64, ty: Ty, value: &Value, out: &mut Watched<W>)
+pub fn write_rest_of_line<W: Write>(
+    types: &Types,
+    number: u64,
+    ty: Ty,
+    value: &Value,
+    out: &mut Watched<W>,
+)
     ensures { Writes W.contents out.old out.new (rest_of_line (decimal number
         ∷ message_text types.now record { ty = ty; value = value.now } ∷ [])) }
 {

@@ -1,6 +1,6 @@
 -- The pieces, one after the other.
 use Rattle.tp_common.proofs.WatchedWriterGrowth.{writes_both}
-use Rattle.tp_report.proofs.opening.write_pieces.Goals as goal
+use Rattle.tp_report.proofs.opening.write_opening_pieces.Goals as goal
 
 pub returns : goal.returns
 returns g c =

@@ -4,7 +4,7 @@ use Rattle.std.specs.Fmt.{decimal}
 use Rattle.tp_common.specs.Watching.{Writes}
 use Rattle.tp_report.specs.ReportWords.{rest_of_line}
 use Rattle.tp_report.proofs.IntegerMessageText.{integer_text}
-use Rattle.tp_report.proofs.rest.write_rest.Goals as goal
+use Rattle.tp_report.proofs.rest.write_rest_of_line.Goals as goal
 
 pub returns-in-Some : goal.returns-in-Some
 returns-in-Some g c =
