@@ -256,8 +256,9 @@ def numbered(program: str, path: Path, number: int) -> str:
 # of states: eight clients with two questions each to a server whose variable holds the last client that asked; four
 # senders to a port that is halted, and drained, by a receiver that once distinguished their messages; four workers of a
 # pool whose last results arrive in an order that makes no difference; four subscribers that acknowledge three messages
-# each, and would send something else after a wrong one; and four senders whose messages a receiver may distinguish, but
-# only in its first look.
+# each, and would send something else after a wrong one; four senders whose messages a receiver may distinguish, but only
+# in its first look; and clients with one to three questions each to a server that has a branch for each of them, whose
+# order makes no difference.
 SERVED = """p.send(integer:1);
         alt { [] p.receive(integer:2) { setverdict(pass); } [] p.receive { setverdict(fail); } }"""
 SERVING = "for (var integer i := 0; i < 16; i := i + 1) { p.receive(integer:1) -> sender w; p.send(integer:2) to w; }"
@@ -347,6 +348,16 @@ def distinguished(number: int) -> str:
     return design(bodies, "", ["self:p"], DISTINGUISHING)
 
 
+def asked(number: int) -> str:
+    rounds = [1 + at % 3 for at in range(number)]
+    asking = "for (var integer i := 0; i < {1}; i := i + 1) {{ p.send(integer:{0}); p.receive(integer:{0}); }}"
+    branches = " ".join(
+        f"[] p.receive(integer:{at}) -> sender w {{ p.send(integer:{at}) to w; }}" for at in range(number)
+    )
+    serving = f"for (var integer i := 0; i < {sum(rounds)}; i := i + 1) {{ alt {{ {branches} }} }} setverdict(pass);"
+    return design([asking.format(*it) for it in enumerate(rounds)], f"var C w; {serving}", ["s:p"])
+
+
 class Design(NamedTuple):
     """A script, the largest number of states that it may have, and its verdicts."""
 
@@ -362,6 +373,7 @@ FORGETTING = (
     Design("4 workers of a pool", pooled(4, 6), 11),
     Design("4 subscribers", published(4), 10),
     Design("4 senders of their own messages", distinguished(4), 530, ("none", "pass", "inconc", "error")),
+    Design("12 clients of one to three questions", asked(12), 30),
 )
 
 
