@@ -2,7 +2,8 @@
 sender, with a number or with the one that it took. So components can be exchanged, or only almost: one has another
 body, `mtc` names some of them, or each sends a number of its own, which its receivers may distinguish, or waits for a
 number that the others may want too. In some scripts there are two servers, each with clients of its own. The two groups
-are independent, unless `mtc` sends to all clients of both."""
+are independent, unless `mtc` sends to all clients of both. In others `mtc` takes the questions of clients one by one.
+"""
 from __future__ import annotations
 
 import random
@@ -144,9 +145,70 @@ def some_groups_script(chance: random.Random) -> str:
     )
 
 
+SERVICE = """module Service {{
+    type port P message {{ inout integer; }}
+    type component C {{ port P p, q; }}
+    {bodies}
+    testcase t() runs on C {{
+        {created}
+        {connected}
+        {started}
+        var C w; var integer v;
+        for (var integer i := 0; i < {turns}; i := i + 1) {{ alt {{ {branches} }} }}
+        {last} all component.done;
+    }}
+}}
+"""
+
+
+def some_question(chance: random.Random) -> str:
+    """A question of a client, and how it waits for the answer, if it does."""
+    number = chance.choice("112")
+    waits = ("p.receive;", "p.receive;", "p.receive;", "", f"p.receive(integer:{number});", chosen(chance, "p"))
+    wait = chance.choice(waits)
+    return f"p.send(integer:{number}); {wait}"
+
+
+def some_branch(chance: random.Random, wanted: str, of: str = "") -> str:
+    """A branch of the server: which questions it takes, of one client or of all, and what it does then."""
+    verdict = chance.choice(("", "", "", f"setverdict({chance.choice(VERDICTS)});"))
+    if of:
+        answer = f"p.send(integer:{chance.choice('12')}) to {of};"
+        return f"[] p.receive(integer:{wanted}) from {of} {{ {verdict} {answer} }}"
+    kept, answer = chance.choice((
+        ("", ""),
+        ("sender w", f"p.send(integer:{chance.choice('12')}) to w;"),
+        ("sender w", f"p.send(integer:{chance.choice('12')}) to w;"),
+        ("value v sender w", "p.send(v) to w;"),
+    ))  # fmt: skip
+    return f"[] p.receive(integer:{wanted}) {kept and '-> ' + kept} {{ {verdict} {answer} }}"
+
+
+def some_service_script(chance: random.Random) -> str:
+    """A script in which `mtc` takes the questions of clients one by one, mostly as many as they ask."""
+    clients = [f"c{at}" for at in range(chance.choice((2, 2, 3)))]
+    asked = [" ".join(some_question(chance) for _ in range(chance.choice((1, 1, 2)))) for _ in clients]
+    senders = [chance.choice(("", *clients)) for _ in range(chance.randint(0, 2))]
+    branches = [some_branch(chance, chance.choice("12"), it) for it in senders]
+    branches.append(some_branch(chance, chance.choice("???1")))
+    turns = sum(it.count("p.send") for it in asked) + chance.choice((-1, 0, 0, 0, 1))
+    return SERVICE.format(
+        bodies=" ".join(f"function of_{it}() runs on C {{ {body} }}" for it, body in zip(clients, asked)),
+        created=" ".join(f"var C {it} := C.create;" for it in clients),
+        connected=" ".join(f"connect(self:p, {it}:p);" for it in clients),
+        started=" ".join(f"{it}.start(of_{it}());" for it in clients),
+        turns=turns,
+        branches=" ".join(branches),
+        last=chance.choice(("", "setverdict(pass);", "p.receive;", "p.clear;", "p.send(v) to all component;")),
+    )
+
+
 def some_alike_script(chance: random.Random) -> str:
-    if chance.random() < 0.2:
+    kind = chance.random()
+    if kind < 0.2:
         return some_groups_script(chance)
+    if kind < 0.45:
+        return some_service_script(chance)
     clients = [f"c{at}" for at in range(chance.choice((2, 2, 3)))]
     known = clients if chance.random() < 0.3 else []
     asks = "p.send(integer:1); q.send(integer:1);" if chance.random() < 0.8 else ""

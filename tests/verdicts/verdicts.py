@@ -256,9 +256,9 @@ def numbered(program: str, path: Path, number: int) -> str:
 # of states: eight clients with two questions each to a server whose variable holds the last client that asked; four
 # senders to a port that is halted, and drained, by a receiver that once distinguished their messages; four workers of a
 # pool whose last results arrive in an order that makes no difference; four subscribers that acknowledge three messages
-# each, and would send something else after a wrong one; four senders whose messages a receiver may distinguish, but only
-# in its first look; and clients with one to three questions each to a server that has a branch for each of them, whose
-# order makes no difference.
+# each, and would send something else after a wrong one; four senders whose messages a receiver may distinguish, but
+# only in its first look; and clients with one to three questions each to a server that has a branch for each of them:
+# the order of their questions makes no difference.
 SERVED = """p.send(integer:1);
         alt { [] p.receive(integer:2) { setverdict(pass); } [] p.receive { setverdict(fail); } }"""
 SERVING = "for (var integer i := 0; i < 16; i := i + 1) { p.receive(integer:1) -> sender w; p.send(integer:2) to w; }"
