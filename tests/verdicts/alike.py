@@ -103,7 +103,7 @@ def own_bodies(chance: random.Random, clients: list[str], asks: str) -> list[str
     return [client for _ in clients]
 
 
-GROUPS = """module Groups {{
+ALL_STARTED = """module Started {{
     type port P message {{ inout integer; }}
     type component C {{ port P p, q; }}
     {bodies}
@@ -136,7 +136,7 @@ def some_groups_script(chance: random.Random) -> str:
         bodies |= of_one_group(chance, name, clients, told)
     links = [f"connect({name}:p, {it}:p);" for name, clients in groups.items() for it in clients]
     links += [f"connect(self:q, {it}:q);" for clients in groups.values() for it in clients if told]
-    return GROUPS.format(
+    return ALL_STARTED.format(
         bodies=" ".join(f"function of_{it}() runs on C {{ {body} }}" for it, body in bodies.items()),
         created=" ".join(f"var C {it} := C.create;" for it in bodies),
         connected=" ".join(links),
@@ -145,20 +145,9 @@ def some_groups_script(chance: random.Random) -> str:
     )
 
 
-SERVICE = """module Service {{
-    type port P message {{ inout integer; }}
-    type component C {{ port P p, q; }}
-    {bodies}
-    testcase t() runs on C {{
-        {created}
-        {connected}
-        {started}
-        var C w; var integer v;
+SERVICE = """var C w; var integer v;
         for (var integer i := 0; i < {turns}; i := i + 1) {{ alt {{ {branches} }} }}
-        {last} all component.done;
-    }}
-}}
-"""
+        {last}"""
 
 
 def some_question(chance: random.Random) -> str:
@@ -192,14 +181,13 @@ def some_service_script(chance: random.Random) -> str:
     branches = [some_branch(chance, chance.choice("12"), it) for it in senders]
     branches.append(some_branch(chance, chance.choice("???1")))
     turns = sum(it.count("p.send") for it in asked) + chance.choice((-1, 0, 0, 0, 1))
-    return SERVICE.format(
+    last = chance.choice(("", "setverdict(pass);", "p.receive;", "p.clear;", "p.send(v) to all component;"))
+    return ALL_STARTED.format(
         bodies=" ".join(f"function of_{it}() runs on C {{ {body} }}" for it, body in zip(clients, asked)),
         created=" ".join(f"var C {it} := C.create;" for it in clients),
         connected=" ".join(f"connect(self:p, {it}:p);" for it in clients),
         started=" ".join(f"{it}.start(of_{it}());" for it in clients),
-        turns=turns,
-        branches=" ".join(branches),
-        last=chance.choice(("", "setverdict(pass);", "p.receive;", "p.clear;", "p.send(v) to all component;")),
+        main=SERVICE.format(turns=turns, branches=" ".join(branches), last=last),
     )
 
 
